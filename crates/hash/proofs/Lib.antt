@@ -1,0 +1,3 @@
+pub mod Padded
+pub mod Chains
+pub mod Apart
