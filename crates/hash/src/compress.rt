@@ -86,6 +86,7 @@ pub impl<E: Cipher<Key = Block>> Compression for MiyaguchiPreneel<
     ghost f = { λ h m. xors (xors (E·Cipher .e h m) m) h };
 
     fn compress(&self, h: Block, m: Block) -> Block {
-        self.cipher.encrypt(h, m).xor(m).xor(h)
+        let out = self.cipher.encrypt(h, m);
+        out.xor(m).xor(h)
     }
 }

@@ -3,3 +3,5 @@ pub mod compress;
 pub mod digest;
 pub mod laws;
 pub mod padding;
+#[cfg(test)]
+mod tests;

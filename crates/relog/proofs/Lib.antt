@@ -1,0 +1,6 @@
+mod Digits
+mod Held
+mod Naming
+mod Runs
+mod Shown
+mod Whole
