@@ -1,3 +1,4 @@
 pub mod Padded
 pub mod Chains
 pub mod Apart
+pub mod Widths

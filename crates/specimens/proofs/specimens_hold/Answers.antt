@@ -11,4 +11,7 @@ returns c = record {
   fewest = λ n. (omega arith, λ z h. omega arith);
   substitutes = (refl, refl);
   nothing = refl;
+  root = refl;
+  path = refl;
+  link = refl;
 }

@@ -1,0 +1,4 @@
+pub mod Beside
+pub mod Climbing
+pub mod Rebuilt
+pub mod Writing

@@ -1,0 +1,3 @@
+pub mod Payloads
+pub mod Ranges
+pub mod Rebuilds

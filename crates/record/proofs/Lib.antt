@@ -1,0 +1,15 @@
+pub mod Doing
+pub mod Bytewise
+pub mod Numbers
+pub mod Framing
+pub mod Payloads
+pub mod Spelling
+pub mod Reading
+pub mod Stand
+pub mod Places
+pub mod Taken
+pub mod Counted
+pub mod Steps
+pub mod Loaded
+pub mod Writing
+pub mod Lengths

@@ -1,0 +1,5 @@
+pub mod Frames
+pub mod Records
+pub mod Laws
+pub mod Kinds
+pub mod Views

@@ -1,0 +1,3 @@
+// The root over a range of leaves, and leaves that lie in a row.
+pub mod range;
+pub mod row;

@@ -1,0 +1,4 @@
+pub mod Rooms
+pub mod Cells
+pub mod Cuts
+pub mod LeafRecords

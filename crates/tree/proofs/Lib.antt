@@ -1,0 +1,10 @@
+pub mod Shapes
+pub mod Split
+pub mod Linking
+pub mod Lengths
+pub mod Depth
+pub mod Complete
+pub mod Down
+pub mod Descent
+pub mod Stand
+pub mod Widths
