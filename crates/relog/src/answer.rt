@@ -11,6 +11,8 @@ use std::fmt;
 #[derive(Drop)]
 pub enum Answer {
     Done,
+    Number(usize),
+    Missing,
     Bytes(Vec<u8>),
     Refused(Refusal),
 }
@@ -21,7 +23,7 @@ impl Answer {
         ensures { λ r. ⌜ mapped now r ≡ okPart (told (now (self .entry))) ⌝ }
     {
         match self {
-            Answer::Done => Some(&[]),
+            Answer::Done | Answer::Number(_) | Answer::Missing => Some(&[]),
             Answer::Bytes(bytes) => Some(bytes.as_slice()),
             Answer::Refused(_) => None,
         }
@@ -32,6 +34,8 @@ pub impl fmt::Display for Answer as AnswerDisplay {
     fn fmt<W: fmt::Write>(&self, f: &mut fmt::Formatter<W>) -> fmt::Result {
         match self {
             Answer::Done => write!(f, "ok"),
+            Answer::Number(n) => write!(f, "{n}"),
+            Answer::Missing => write!(f, "none"),
             Answer::Bytes(bytes) => {
                 if bytes.is_empty() {
                     return write!(f, "-");

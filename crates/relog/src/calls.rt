@@ -86,7 +86,7 @@ fn hash_answer<C: Compression>(c: &C, heap: Global, message: &[u8]) -> Result<An
 }
 
 // A copy of the bytes that words stand for.
-fn bytes_of<D: Words>(heap: Global, words: D) -> Result<Vec<u8>, AllocError>
+pub fn bytes_of<D: Words>(heap: Global, words: D) -> Result<Vec<u8>, AllocError>
     ensures { λ r. ⌜ made r (λ v. vec-items v ≡ bytes words) ⌝ }
 {
     let mut all = vec![in heap; 0; D::size()]?;

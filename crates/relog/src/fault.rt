@@ -15,7 +15,9 @@ pub enum Fault<'a> {
     BadNumber(&'a str),
     UnknownCompression(&'a str),
     NotLent(&'a str),
+    NotShown(&'a str),
     NoCompression,
+    NoStore,
     TooManyBytes,
     NoMemory,
 }
@@ -49,7 +51,9 @@ pub impl<'a> fmt::Display for Fault<'a> as FaultDisplay {
             Fault::BadNumber(word) => write!(f, "bad number: {word}"),
             Fault::UnknownCompression(word) => write!(f, "unknown compression: {word}"),
             Fault::NotLent(word) => write!(f, "cannot lend {word}"),
+            Fault::NotShown(word) => write!(f, "cannot show {word}"),
             Fault::NoCompression => write!(f, "no compression in use"),
+            Fault::NoStore => write!(f, "no store"),
             Fault::TooManyBytes => write!(f, "more than {LIMIT} bytes"),
             Fault::NoMemory => write!(f, "out of memory"),
         }

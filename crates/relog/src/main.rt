@@ -1,10 +1,5 @@
 // Runs a script of commands, and prints each command with its answer.
-use crate::answer::AnswerDisplay;
-use crate::command::answer_line;
-use crate::fault::FaultDisplay;
-use crate::line::Line;
-use crate::line::LineDisplay;
-use crate::session::Session;
+use crate::play::play;
 use std::env;
 use std::error::AnyError;
 use std::fs::File;
@@ -22,23 +17,18 @@ mod hex;
 mod kept;
 mod line;
 mod mode;
+mod play;
+mod script;
 mod session;
+mod target;
 
-// Answers line by line, so that a script may also be typed in.
-fn play<R: Read + Drop>(rt: &LibcRuntime, script: R) -> io::Result<()> {
+fn lines<R: Read + Drop>(rt: &LibcRuntime, script: R) -> io::Result<Vec<String>> {
     let heap = rt.alloc();
-    let mut session = Session::new(heap);
+    let mut all = Vec::new(heap);
     for text in BufReader::new(script).lines(heap) {
-        let text = text?;
-        let line = Line::read(heap, text.as_str())?;
-        if !line.is_empty() {
-            match answer_line(&mut session, &line) {
-                Ok(answer) => println!(rt, "{line}: {answer}")?,
-                Err(fault) => println!(rt, "{line}: error: {fault}")?,
-            }
-        }
+        all.push(text?)?;
     }
-    Ok(())
+    Ok(all)
 }
 
 fn run(rt: &LibcRuntime) -> Result<(), AnyError> {
@@ -48,8 +38,8 @@ fn run(rt: &LibcRuntime) -> Result<(), AnyError> {
         return Err("usage: relog [FILE]".into());
     }
     match path {
-        None => play(rt, rt.stdin())?,
-        Some(path) => play(rt, File::open(rt, path)?)?,
+        None => play(rt, lines(rt, rt.stdin())?.as_slice())?,
+        Some(path) => play(rt, lines(rt, File::open(rt, path)?)?.as_slice())?,
     }
     Ok(())
 }
