@@ -22,7 +22,7 @@ pub no-room : (i n : ℕ) (new xs : Bytes) (t : Bool) → t ≡ leb (i + n) (len
 no-room i n new xs t e h l =
     sym (cond-false (leb (i + length new) (length xs)) _ _ (ap (λ (k : ℕ). leb (i + k) (length xs)) l ∙ sym e ∙ h))
 
-length-written : (i : ℕ) (new xs : Bytes) → i + length new ≤ length xs → length (written i new xs) ≡ length xs
+pub length-written : (i : ℕ) (new xs : Bytes) → i + length new ≤ length xs → length (written i new xs) ≡ length xs
 length-written i new xs h =
     length-append (take i xs) (new ++ drop (i + length new) xs)
     ∙ omega (arith, length-take-le i xs (omega arith), length-append new (drop (i + length new) xs), length-drop (i + length new) xs)

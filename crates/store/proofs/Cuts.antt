@@ -1,10 +1,9 @@
--- Lists that are cut into pieces of one length, and writes at a place. Assumes nothing.
+-- Lists that are cut into pieces of one length, and a piece written behind others. Assumes nothing.
 use mathlib.Core.Path.{_≡_, refl, sym, ap, ap₂, _∙_}
 use mathlib.Core.List.{List, [], _∷_, _++_, map}
 use Prim.Native.Nat.{ℕ, zero, suc, _+_, _*_, _≤_}
 use native.Mathlib.Nat.{mul-suc}
 use native.Mathlib.Omega.{arith}
-use borrow.Rule.Slice.PartMut.{putMid}
 use lib.ListN.{length, take, drop, length-append, length-drop}
 use Rattle.std.proofs.shelf.Lists.{nil-from-length, take-at, take-take, take-append-le, drop-append-le, drop-take, drop-drop, length-take-le}
 use Rattle.std.specs.Options.{mapped}
@@ -16,15 +15,6 @@ pub nth-map : {X Y : Type 0} (f : X → Y) (xs : List X) (i : ℕ) → nth (map 
 nth-map f [] i = refl
 nth-map f (x ∷ xs) zero = refl
 nth-map f (x ∷ xs) (suc i) = nth-map f xs i
-
-pub length-written : (i : ℕ) (new old : List ℕ) → i + length new ≤ length old → length (written i new old) ≡ length old
-length-written i new old h =
-    omega (arith, length-append (take i old) (new ++ drop (i + length new) old), length-append new (drop (i + length new) old), length-take-le i old (omega arith), length-drop (i + length new) old)
-
--- what `copy_from_slice` leaves
-pub put-written : (i k : ℕ) (old new : List ℕ) → length new ≡ k → putMid i k old new ≡ written i new old
-put-written i k old new e =
-    ap (λ (l : List ℕ). take i old ++ (new ++ l)) (drop-drop k i old ∙ ap (λ (n : ℕ). drop (i + n) old) (sym e))
 
 -- c pieces are the front of the list
 pub cut-front : (w c : ℕ) (xs : List ℕ) → cut w c (take (w * c) xs) ≡ cut w c xs

@@ -6,7 +6,6 @@ use Prim.Native.Nat.{ℕ, zero, suc, _+_, _-_, _/_, _%_, _<_, _≤_}
 use native.Mathlib.Nat.{mul-suc, mul-div-le, mul-le-mul-left}
 use native.Mathlib.Numerals.{add-one}
 use native.Mathlib.Omega.{arith}
-use borrow.Rule.Slice.PartMut.{putMid}
 use lib.Dec.{ltb}
 use lib.ListN.{length, take, drop, length-map, length-append, length-drop}
 use Rattle.std.proofs.shelf.Lists.{take-at, drop-take, drop-drop, length-take-le, map-push}
@@ -15,44 +14,23 @@ use Rattle.std.specs.Options.{mapped}
 use Rattle.std.specs.shelf.Maps.{nth}
 use Rattle.std.specs.declared.option.Option.the-variants.{Some, None}
 use Rattle.cipher.specs.Bytes.{little, written, stored}
-use Rattle.cipher.proofs.Pieces.{stored-there, written-written}
+use Rattle.cipher.proofs.Pieces.{stored-there}
 use Rattle.hash.specs.Hash.{cut}
 use Rattle.hash.specs.Collisions.{Bytes}
 use Rattle.hash.proofs.Padded.{length-cut, nth-cut}
 use Rattle.tree.specs.Digests.{Digests}
 use Rattle.record.specs.Records.{spelled, leaf}
+use Rattle.record.proofs.Lengths.{length-leaf}
+use Rattle.record.proofs.Writing.{length-written}
 use Rattle.store.specs.Stores.{itemsAfter, spaceAfter, mostOf, keptOf, spaceOf}
 use Rattle.store.specs.Images.{recordSize, recordAt, placesIn, recordsIn, leavesIn}
 use Rattle.store.proofs.Rooms.{kept-places, room-other, room-kept, room-space}
-use Rattle.store.proofs.Cuts.{nth-map, put-written, length-written, cut-written}
+use Rattle.store.proofs.Cuts.{nth-map, cut-written}
 
--- a leaf record is four bytes and the digest
-pub length-leaf : (d : Bytes) → length (spelled (leaf d)) ≡ 4 + length d
-unfolding little
-length-leaf d = omega arith
-
+-- a leaf record ends with its digest
 pub leaf-digest : (d : Bytes) → drop 4 (spelled (leaf d)) ≡ d
 unfolding little
 leaf-digest d = refl
-
-pub leaf-spelled : (d : Bytes) (w : ℕ) → length d ≡ w → w ≤ 32 → w ∷ 0 ∷ 1 ∷ 0 ∷ d ≡ spelled (leaf d)
-unfolding little
-leaf-spelled d w e h =
-    let low : w ≡ length d % 256 = omega arith in
-    let high : 0 ≡ length d / 256 % 256 = omega arith in
-    cc
-
--- its head copied to a place, and the digest stored behind
-pub leaf-put : (i w : ℕ) (bs d head new : Bytes) → length d ≡ w → w ≤ 32 → i + recordSize w ≤ length bs
-    → head ≡ w ∷ 0 ∷ 1 ∷ 0 ∷ [] → new ≡ stored (i + 4) d (putMid i (i + 4 - i) bs head) → new ≡ written i (spelled (leaf d)) bs
-leaf-put i w bs d head new l s h e f =
-    let four : length head ≡ 4 = ap length e in
-    let long : length (written i head bs) ≡ length bs = length-written i head bs (omega arith) in
-    f
-    ∙ ap (stored (i + 4) d) (put-written i (i + 4 - i) bs head (omega arith))
-    ∙ stored-there (i + 4) d (written i head bs) (omega arith)
-    ∙ written-written bs i head d 4 four (omega arith)
-    ∙ ap (λ (r : Bytes). written i r bs) (ap (λ (x : Bytes). x ++ d) e ∙ leaf-spelled d w l s)
 
 module _ (w : ℕ) where
   pub next-record : (i : ℕ) → recordAt w (suc i) ≡ recordAt w i + recordSize w
@@ -92,15 +70,15 @@ module _ (w : ℕ) where
 
     -- new: the same bytes with a record written behind the others
     module _ (k : ℕ) (e : k ≡ keptOf n (placesIn w bs)) (h : k < mostOf (placesIn w bs)) (d : Bytes) (l : length d ≡ w)
-        (i : ℕ) (j : i ≡ recordAt w k) (new : Bytes) (f : new ≡ written i (spelled (leaf d)) bs) where
+        (i : ℕ) (j : i ≡ recordAt w k) (new : Bytes) (f : new ≡ stored i (spelled (leaf d)) bs) where
       size : length (spelled (leaf d)) ≡ recordSize w
-      size = omega (arith, length-leaf d)
+      size = length-leaf w d l
 
       fits : recordAt w k + length (spelled (leaf d)) ≤ length bs
       fits = omega (arith, size, record-fits k bs (omega arith))
 
       behind : new ≡ written (recordAt w k) (spelled (leaf d)) bs
-      behind = f ∙ ap (λ (m : ℕ). written m (spelled (leaf d)) bs) j
+      behind = f ∙ ap (λ (m : ℕ). stored m (spelled (leaf d)) bs) j ∙ stored-there (recordAt w k) (spelled (leaf d)) bs fits
 
       places : placesIn w new ≡ placesIn w bs
       places = ap (λ (m : ℕ). m / recordSize w) (ap length behind ∙ length-written (recordAt w k) (spelled (leaf d)) bs fits)

@@ -1,27 +1,24 @@
 // A store over lent bytes, which keeps a leaf record for each digest.
 ghost use mathlib.Core.Path.{_≡_};
 ghost use mathlib.Core.List.{[]};
-ghost use Prim.Native.Nat.{_+_, _≤_};
+ghost use Prim.Native.Nat.{_≤_};
 ghost use denote.Ref.{name};
 ghost use lib.ListN.{length};
-ghost use Rattle.cipher.specs.Bytes.{written};
-ghost use Rattle.record.specs.Records.{spelled, leaf as leafRecord};
 ghost use Rattle.tree.specs.Spans.{largest};
 ghost use Rattle.store.specs.Stores.{appendAnswer, itemsAfter, spaceAfter, mostOf};
-ghost use Rattle.store.specs.Images.{recordSize, recordAt, placesIn, imageCount, imageItems, imageSpace, imageUsed, bytesAfter, usedAfter};
+ghost use Rattle.store.specs.Images.{recordAt, placesIn, imageCount, imageItems, imageSpace, imageUsed, bytesAfter, usedAfter};
 use crate::Store;
 use crate::places::kept;
 use crate::places::most;
 use cipher::words::Words;
+use record::sizes::leaf_len;
+use record::write::write_leaf;
 use refusal::Refusal;
 use std::marker::PhantomData;
 use tree::leaves::Leaves;
 
 // A record has so many bytes before its digest: the digest's length and the record's kind, two bytes each.
 const HEAD: usize = 4;
-
-// The kind of a leaf record.
-const LEAF: u8 = 1;
 
 // The digests are in the first `count` leaf records, which stand one after the other.
 #[derive(Drop)]
@@ -32,28 +29,12 @@ pub struct Image<'a, D> {
     digests: PhantomData<D>,
 }
 
-fn record_size<D: Words>() -> usize
-    ensures { λ r. ⌜ r ≡ recordSize (D·Words .width) ⌝ }
-{
-    HEAD + D::size()
-}
-
 // Where record `i` begins.
 fn record_at<D: Words>(i: usize) -> usize
     requires { ⌜ i ≤ largest ⌝ }
     ensures { λ r. ⌜ r ≡ recordAt (D·Words .width) i ⌝ }
 {
-    record_size::<D>() * i
-}
-
-// Writes the leaf record of a digest from a place on.
-fn put_leaf<D: Words>(bytes: &mut [u8], at: usize, digest: D)
-    requires { ⌜ at + recordSize (D·Words .width) ≤ length (now bytes) ⌝ }
-    ensures { λ _. ⌜ now (bytes .exit) ≡ written at (spelled (leafRecord (D·Words .bytes digest))) (now (bytes .entry)) ⌝ }
-{
-    let head = [D::size() as u8, 0, LEAF, 0];
-    bytes[at..at + HEAD].copy_from_slice(&head);
-    digest.store(bytes, at + HEAD);
+    leaf_len::<D>() * i
 }
 
 impl<'a, D: Words> Image<'a, D> {
@@ -82,7 +63,7 @@ impl<'a, D: Words> Image<'a, D> {
     fn places(&self) -> usize
         ensures { λ r. ⌜ r ≡ placesIn (D·Words .width) (now (now (self .entry) .bytes)) ⌝ }
     {
-        self.bytes.len() / record_size::<D>()
+        self.bytes.len() / leaf_len::<D>()
     }
 
     fn kept(&self) -> usize
@@ -129,7 +110,7 @@ pub impl<'a, D: Words> Store for Image<'a, D> as ImageStore {
         if at >= most(self.places()) {
             return Err(Refusal::StoreFull);
         }
-        put_leaf(self.bytes, record_at::<D>(at), digest);
+        write_leaf(digest, self.bytes, record_at::<D>(at));
         self.count = at + 1;
         Ok(at)
     }

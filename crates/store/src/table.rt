@@ -1,9 +1,10 @@
 // A store over lent digests.
 ghost use mathlib.Core.Path.{_≡_};
 ghost use mathlib.Core.List.{[]};
+ghost use denote.Ref.{name};
 ghost use lib.ListN.{length};
-ghost use Rattle.store.specs.Stores.{mostOf};
-ghost use Rattle.store.specs.Tables.{tableCount, tableItems, tableSpace};
+ghost use Rattle.store.specs.Stores.{appendAnswer, itemsAfter, spaceAfter, mostOf};
+ghost use Rattle.store.specs.Tables.{tableCount, tableItems, tableSpace, cellsAfter};
 use crate::Store;
 use crate::places::kept;
 use crate::places::most;
@@ -19,10 +20,12 @@ pub struct Table<'a, D> {
 }
 
 impl<'a, D: Words> Table<'a, D> {
-    // An empty table.
+    // An empty table over these very cells, so that whoever lent them knows them afterwards.
     pub fn new(cells: &'a mut [D]) -> Table<'a, D>
         ensures items { λ r. ⌜ tableItems (D·Words .bytes) r ≡ [] ⌝ }
         ensures space { λ r. ⌜ tableSpace r ≡ mostOf (length (now (cells .entry))) ⌝ }
+        ensures cells { λ r. ⌜ now (r .cells) ≡ now (cells .entry) ⌝ }
+        ensures lent { λ r. ⌜ name (r .cells) ≡ name (cells .entry) ⌝ }
     {
         Table { cells, count: 0 }
     }
@@ -59,7 +62,14 @@ pub impl<'a, D: Words> Store for Table<'a, D> as TableStore {
         most(self.cells.len()) - self.kept()
     }
 
-    fn append(&mut self, digest: D) -> Result<usize, Refusal> {
+    // It also promises what the lent cells are afterwards.
+    fn append(&mut self, digest: D) -> Result<usize, Refusal>
+        ensures answer { λ r. ⌜ r ≡ appendAnswer (length (tableItems (D·Words .bytes) (now (self .entry)))) (tableSpace (now (self .entry))) ⌝ }
+        ensures items { λ _. ⌜ tableItems (D·Words .bytes) (now (self .exit)) ≡ itemsAfter (tableItems (D·Words .bytes) (now (self .entry))) (tableSpace (now (self .entry))) (D·Words .bytes digest) ⌝ }
+        ensures space { λ _. ⌜ tableSpace (now (self .exit)) ≡ spaceAfter (tableSpace (now (self .entry))) ⌝ }
+        ensures cells { λ _. ⌜ now (now (self .exit) .cells) ≡ cellsAfter (now (self .entry)) digest ⌝ }
+        ensures lent { λ _. ⌜ name (now (self .exit) .cells) ≡ name (now (self .entry) .cells) ⌝ }
+    {
         let at = self.kept();
         if at >= most(self.cells.len()) {
             return Err(Refusal::StoreFull);

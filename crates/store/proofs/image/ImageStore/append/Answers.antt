@@ -8,13 +8,8 @@ use Rattle.record.specs.Records.{spelled, leaf}
 use Rattle.store.specs.Stores.{mostOf, keptOf}
 use Rattle.store.specs.Images.{recordAt, placesIn, recordsIn, leavesIn}
 use Rattle.store.proofs.Rooms.{full-answer, full-same, full-space, room-answer}
-use Rattle.store.proofs.LeafRecords.{record-fits, length-leaves, leaves-after, places-after, records-after, bytes-after}
+use Rattle.store.proofs.LeafRecords.{length-leaves, leaves-after, places-after, records-after, bytes-after}
 use Rattle.store.proofs.image.ImageStore.append.Needs as need
-
-pub put-leaf-requires : need.put-leaf-requires
-put-leaf-requires g c κs =
-    let fits = record-fits (g .D·Words .width) (c .kept-at .result) (c .args .self .now .bytes .now) (omega arith) in
-    omega (arith, fits)
 
 pub returns-then-at-most : need.returns-then-at-most
 returns-then-at-most g c =
@@ -51,8 +46,8 @@ returns g c =
     let h : k < mostOf (placesIn w bs) = omega arith in
     let i = c .record-at .result in
     let j = c .record-at .ensures in
-    let new = c .put-leaf .last .bytes in
-    let f = c .put-leaf .ensures in
+    let new = c .write-leaf .last .into in
+    let f = c .write-leaf .ensures in
     record {
       answer = room-answer n (placesIn w bs) k e h (length (leavesIn w n bs)) (length-leaves w n bs);
       items = leaves-after w n bs k e h d l i j new f;

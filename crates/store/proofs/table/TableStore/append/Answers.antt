@@ -1,10 +1,11 @@
+use mathlib.Core.Path.{refl, ap, _∙_}
 use mathlib.Core.List.{[], _∷_, _++_}
-use Prim.Native.Nat.{_<_, _≤_}
+use Prim.Native.Nat.{ℕ, _<_, _≤_}
 use native.Mathlib.Omega.{arith}
-use lib.ListN.{length}
-use Rattle.store.specs.Stores.{mostOf}
+use lib.ListN.{length, set}
+use Rattle.store.specs.Stores.{mostOf, keptOf}
 use Rattle.store.specs.Tables.{digestsIn}
-use Rattle.store.proofs.Rooms.{full-answer, full-same, full-space, room-answer}
+use Rattle.store.proofs.Rooms.{full-answer, full-same, full-space, room-answer, room-other}
 use Rattle.store.proofs.Cells.{length-digests, digests-after, cells-after}
 use Rattle.store.proofs.table.TableStore.append.Needs as need
 
@@ -21,6 +22,8 @@ returns-then-at-most g c =
       answer = full-answer n (length cells) k e h (length items);
       items = full-same n (length cells) k e h (items ++ spell (c .args .digest) ∷ []) items;
       space = full-space n (length cells) k e h;
+      cells = full-same n (length cells) k e h (set cells (keptOf n (length cells)) (c .args .digest)) cells;
+      lent = refl {a = c .args .self .now .cells .name};
     }
 
 pub returns : need.returns
@@ -35,4 +38,8 @@ returns g c =
       answer = room-answer n (length cells) k e h (length (digestsIn spell n cells)) (length-digests spell n cells);
       items = digests-after spell n cells k e h (c .args .digest);
       space = cells-after spell n cells k e h (c .args .digest);
+      cells =
+          ap (λ (m : ℕ). set cells m (c .args .digest)) e
+          ∙ room-other n (length cells) k e h (set cells (keptOf n (length cells)) (c .args .digest)) cells;
+      lent = refl {a = c .args .self .now .cells .name};
     }
