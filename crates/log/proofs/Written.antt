@@ -22,7 +22,7 @@ use Rattle.hash.specs.Collisions.{Bytes}
 use Rattle.hash.specs.Widths.{Sized}
 use Rattle.tree.specs.Digests.{Digests, nodeDigest, rootAt, pathOf, linkOf}
 use Rattle.tree.specs.Tree.{shapeOf, partBy}
-use Rattle.tree.specs.Spans.{largest, inTree, inLink, spanOf, pathSpans, linkSpans, pathCount, linkCount}
+use Rattle.tree.specs.Spans.{largest, inTree, inLink, spanOf, pathSpans, linkSpans}
 use Rattle.tree.proofs.Shapes.{size-shapeOf}
 use Rattle.tree.proofs.Widths.{digests-path, digests-sub, length-joined}
 use Rattle.tree.proofs.Lengths.{length-path}
@@ -37,7 +37,7 @@ use Rattle.record.specs.Records.{Head, Proof, Link, head, proof, link, spelled,
 use Rattle.record.proofs.Doing.{not-both, none-some, some-same, through, must-last, and-true}
 use Rattle.record.proofs.Framing.{length-framed}
 use Rattle.log.specs.Buffers.{enough, fitting, lengthOf, outputAfter}
-use Rattle.log.specs.Logs.{LogState, headOver, proofOver, linkOver, headAnswer, proveAnswer, linkAnswer}
+use Rattle.log.specs.Logs.{LogState, headOver, proofOver, linkOver, headAnswer}
 
 -- the last check, of the output
 pub fitting-ok : (out : ℕ) (r : Bytes) → length r ≤ out → fitting out r ≡ Ok r
@@ -91,19 +91,9 @@ recorded kind size pay out new part final p h same e f q =
     ∙ ap (λ (x : Bytes). written 0 x out) (append-assoc (little 2 size) (little 2 kind) pay ∙ ap (λ (k : ℕ). little 2 k ++ (little 2 kind ++ pay)) p)
 
 -- what is known of a path or a link that has so many digests
-pub path-counted : (i n d : ℕ) → Some d ≡ pathCount i n → (inTree i n ≡ true) × (d ≡ length (pathSpans i n))
-path-counted i n d e = go (inTree i n) refl e
-  where
-    go : (t : Bool) → inTree i n ≡ t → Some d ≡ cond t (Some (length (pathSpans i n))) None → (inTree i n ≡ true) × (d ≡ length (pathSpans i n))
-    go true h k = (h, some-same k)
-    go false h k = absurd (none-some (sym k))
-
-pub link-counted : (m n d : ℕ) → Some d ≡ linkCount m n → (inLink m n ≡ true) × (d ≡ length (linkSpans m n))
-link-counted m n d e = go (inLink m n) refl e
-  where
-    go : (t : Bool) → inLink m n ≡ t → Some d ≡ cond t (Some (length (linkSpans m n))) None → (inLink m n ≡ true) × (d ≡ length (linkSpans m n))
-    go true h k = (h, some-same k)
-    go false h k = absurd (none-some (sym k))
+pub counted : (t : Bool) (d k : ℕ) → Some d ≡ cond t (Some k) None → (t ≡ true) × (d ≡ k)
+counted true d k e = (refl, some-same e)
+counted false d k e = absurd (none-some (sym e))
 
 pub tree-some : (i n : ℕ) → inTree i n ≡ true → 1 ≤ n
 tree-some i n e = grind (arith, tells)
@@ -126,13 +116,10 @@ module _ (f : Hashing) (l : LogState) (cells out n : ℕ) (started : l .opened �
       through MadeOverLeaves _ started ∙ through TooFewCells _ (le-leb 21 cells some)
       ∙ through ImpossibleRequest _ (and-true (le-leb 1 n a) (and-true (le-leb n largest b) (le-leb n (length (l .leaves)) d)))
 
-  pub prove-checked : (i : ℕ) → inTree i n ≡ true → n ≤ length (l .leaves) → proveAnswer f l cells out i n ≡ fitting out (spelled (proof (proofOver f (l .leaves) i n)))
-  prove-checked i a d =
-      through MadeOverLeaves _ started ∙ through TooFewCells _ (le-leb 21 cells some)
-      ∙ through ImpossibleRequest _ (and-true a (le-leb n (length (l .leaves)) d))
-
-  pub link-checked : (m : ℕ) → inLink m n ≡ true → n ≤ length (l .leaves) → linkAnswer f l cells out m n ≡ fitting out (spelled (link (linkOver f (l .leaves) m n)))
-  link-checked m a d =
+  -- prove and link: a request for r over n leaves whose numbers are in order
+  pub asked-checked : (order : Bool) (r : Bytes) → order ≡ true → n ≤ length (l .leaves) →
+      (must (l .opened) MadeOverLeaves >> (enough cells >> (must (order && leb n (length (l .leaves))) ImpossibleRequest >> fitting out r))) ≡ fitting out r
+  asked-checked order r a d =
       through MadeOverLeaves _ started ∙ through TooFewCells _ (le-leb 21 cells some)
       ∙ through ImpossibleRequest _ (and-true a (le-leb n (length (l .leaves)) d))
 
