@@ -1,4 +1,6 @@
 // AES-128.
+#![tactic(auto)]
+
 ghost use Rattle.aes.specs.Aes.{aes, key_expansion};
 ghost use Rattle.std.proofs.Common.{arith};
 ghost use Rattle.aes.specs.Expansion.{length_expanded, length_cipher};

@@ -1,4 +1,6 @@
 // Checks of the papers of a log, for whoever holds them: proofs, links, and collisions of the compression.
+#![tactic(auto)]
+
 pub mod accept;
 mod collide;
 mod laws;

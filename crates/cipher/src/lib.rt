@@ -1,4 +1,6 @@
 // Blocks kept as words, and the interface of a block cipher.
+#![tactic(auto)]
+
 ghost use Rattle.std.specs.Prelude.{◌≡◌, ℕ, List, length};
 ghost use Rattle.cipher.specs.Blocks.{block_bytes};
 

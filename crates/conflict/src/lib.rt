@@ -1,4 +1,6 @@
 // Two papers of a log that contradict each other, and the collision of the compression behind them.
+#![tactic(auto)]
+
 mod bytes;
 mod inputs;
 mod laws;

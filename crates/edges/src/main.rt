@@ -1,4 +1,6 @@
 // Runs the log and the readers of records at their edges, and prints what they answer.
+#![tactic(auto)]
+
 use refusal::Refusal;
 
 mod full;

@@ -86,7 +86,7 @@ impl<E: Cipher<Key = Block>> Compression for MiyaguchiPreneel<E> {
 
     ghost outputs = { λ h m p q.
         let out = E.Cipher.e h m in
-        length-xors (xors out m) h 16 (length-xors out m 16 (E.Cipher.outputs h m p q) q) p };
+        length_xors (xors out m) h 16 (length_xors out m 16 (E.Cipher.outputs h m p q) q) p };
 
     fn compress(&self, h: Block, m: Block) -> Block {
         let out = self.cipher.encrypt(h, m);

@@ -1,4 +1,6 @@
 // Paths and links: written from the leaves, and the roots that they rebuild.
+#![tactic(auto)]
+
 pub mod apart;
 mod descent;
 pub mod rebuild;

@@ -1,5 +1,7 @@
 // Why a call is refused, and what it then returns. Inputs are counted from 1, in the order in which a call takes them, and a
 // place is the first byte of a record in its input.
+#![tactic(auto)]
+
 ghost use Rattle.std.specs.Prelude.{◌≡◌};
 ghost use Rattle.refusal.specs.Refusals.{returned_of};
 

@@ -1,4 +1,6 @@
 // A log of entries over any store of leaf digests and any compression.
+#![tactic(auto)]
+
 pub mod buffers;
 mod calls;
 mod questions;

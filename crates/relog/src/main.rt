@@ -1,4 +1,6 @@
 // Runs a script of commands, and prints each command with its answer.
+#![tactic(auto)]
+
 use crate::play::play;
 use anyhow::anyhow;
 use std::fs::File;

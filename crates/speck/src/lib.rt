@@ -1,4 +1,6 @@
 // Speck128/128.
+#![tactic(auto)]
+
 ghost use Rattle.std.specs.Prelude.{◌≡◌, ◌++◌};
 ghost use Rattle.std.proofs.Math.Path.{refl};
 ghost use Rattle.cipher.specs.Bytes.{little};

@@ -1,6 +1,8 @@
 // How fast the hash is, under each mode over each cipher: long messages, and many short ones; and how fast a log is.
 // `speed N M` does N times the work of the hash, and M times that of the log. Digests go to standard output; mode or call, length
 // or size, count and microseconds to standard error.
+#![tactic(auto)]
+
 use aes::Aes128;
 use anyhow::anyhow;
 use cipher::words::Words;

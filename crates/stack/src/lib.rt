@@ -1,4 +1,6 @@
 // A stack over lent cells, for any kind of cell.
+#![tactic(auto)]
+
 ghost use Rattle.std.specs.Prelude.{◌≡◌, ℕ, ◌≤◌, length};
 
 mod top;

@@ -1,4 +1,6 @@
 // Stores of leaf digests: what a store is, one over lent digests and one over lent bytes.
+#![tactic(auto)]
+
 ghost use Rattle.std.specs.Prelude.{◌≡◌, ℕ, ◌+◌, ◌≤◌, length};
 ghost use Rattle.tree.specs.Spans.{largest};
 ghost use Rattle.store.specs.Stores.{append_answer, items_after, space_after};

@@ -1,4 +1,6 @@
 // The Merkle tree: leaf and node digests, where leaves come from, and how long paths and links are.
+#![tactic(auto)]
+
 pub mod digests;
 pub mod laws;
 pub mod leaves;

@@ -1,4 +1,6 @@
 // Runs the ciphers and the hash on published vectors and worked examples, and prints what it compared.
+#![tactic(auto)]
+
 use aes::Aes128;
 use aes::sbox::sub;
 use anyhow::anyhow;

@@ -7,21 +7,21 @@ use Rattle.aes.specs.Expansion.{expanded_none, grown, newest}
 use Rattle.aes.proofs.keys.round_keys.Goals as goal
 
 pub loop-i-init : goal.loop-i-init
-loop-i-init c = (sym (expanded_none 4 _), c.load-word-last.ensures, omega arith)
+loop-i-init c = (sym (expanded_none 4 _), c.load_word-last.ensures, omega arith)
 
 pub loop-i-preserved : goal.loop-i-preserved
 loop-i-preserved c =
     let i = c.loop-i.i in
     let xs = c.loop-i.keys in
     let key = take 16 c.store.new.into in
-    let back = c.load-word.result in
+    let back = c.load_word.result in
     let st = c.temp.result in
-    let far = c.load-word.ensures in
+    let far = c.load_word.ensures in
     let room : 4 * i + 4 ≤ length xs = omega arith in
     let from : 4 ≤ i = omega arith in
     let a = grown 4 i key xs back st c.loop-i.last (omega arith) from room c.loop-i.invariant.0 c.loop-i.invariant.1 far c.temp.ensures in
     let b = newest 4 i key xs back st c.loop-i.last (omega arith) from room c.loop-i.invariant.0 c.loop-i.invariant.1 far c.temp.ensures in
-    let e = c.store-word.ensures in (
+    let e = c.store_word.ensures in (
       ap (λ (l : List ℕ). take (4 * (i + 1)) l) e ∙ a,
       b ∙ ap (λ (l : List ℕ). take 4 (drop (4 * (i + 1) - 4) l)) (sym e),
       omega arith,

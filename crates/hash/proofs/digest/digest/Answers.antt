@@ -4,8 +4,8 @@ use Rattle.hash.specs.Hash.{blocks, chain, from_zeros}
 use Rattle.hash.proofs.Padded.{nth_there, nth_gone, length_blocks}
 use Rattle.hash.proofs.digest.digest.Goals as goal
 
-pub overflow-add-k : goal.overflow-add-k
-overflow-add-k g c =
+pub overflow_add-k : goal.overflow_add-k
+overflow_add-k g c =
     let m : List ℕ = c.args.message.now in
     let there = nth_there (blocks m) c.loop-block.k _ (sym c.in-Some.ensures) in
     record { fits = omega (arith, there.0, length_blocks m) }
@@ -29,6 +29,6 @@ pub returns : goal.returns
 returns g c =
     let F = from_zeros g.C.Value.Words.width g.C.Compression.f in
     let bs : List (List ℕ) = blocks c.args.message.now in
-    ap (chain F (g.C.Value.Words.bytes c.loop-block.h)) (sym (nth_gone bs c.loop-block.k (sym c.in-default.ensures)))
+    ap (chain F (g.C.Value.Words.bytes c.loop-block.h)) (sym (nth_gone bs c.loop-block.k (sym c.in_default.ensures)))
     ∙ c.loop-block.invariant
     ∙ ap (λ (h : List ℕ). chain F h bs) c.start-h.ensures

@@ -16,9 +16,9 @@ returns-then-n-lt8 c =
     let b : List ℕ = c.marked-block.result in
     let full : length b ≡ 16 = ap length c.marked-block.ensures ∙ mark_length t n long (omega arith) in
     let front : take 8 b ≡ t ++ (128 ∷ replicate (7 - n) 0) = ap (take 8) c.marked-block.ensures ∙ mark_front t n long c.if-n-lt8.true in
-    let written : c.copy-from-slice.new.self ≡ little 8 (length m) = c.copy-from-slice.ensures.after ∙ c.to-le-bytes.ensures ∙ sym (little_eight (length m)) in
+    let written : c.copy_from_slice.new.self ≡ little 8 (length m) = c.copy_from_slice.ensures.after ∙ c.to_le_bytes.ensures ∙ sym (little_eight (length m)) in
     let past : drop 8 (drop 8 b) ≡ [] = drop_all 8 (drop 8 b) (omega (arith, length-drop 8 b)) in
-    ap (λ l. l ++ (c.copy-from-slice.new.self ++ drop 8 (drop 8 b))) front
+    ap (λ l. l ++ (c.copy_from_slice.new.self ++ drop 8 (drop 8 b))) front
     ∙ ap (λ l. (t ++ (128 ∷ replicate (7 - n) 0)) ++ (l ++ drop 8 (drop 8 b))) written
     ∙ ap (λ l. (t ++ (128 ∷ replicate (7 - n) 0)) ++ (little 8 (length m) ++ l)) past
     ∙ ap (λ l. (t ++ (128 ∷ replicate (7 - n) 0)) ++ l) (append-nil (little 8 (length m)))

@@ -10,4 +10,4 @@ returns g c =
     let n : ℕ = 1 + length e - 0 in
     let F = from_zeros g.C.Value.Words.width g.C.Compression.f in
     c.digest.ensures
-    ∙ ap (hash_of F) (ap (take n) (c.leaf-message.ensures ∙ stored_there 0 (0 ∷ e) m (omega (arith, c.requires))) ∙ written_front (0 ∷ e) m n (omega arith))
+    ∙ ap (hash_of F) (ap (take n) (c.leaf_message.ensures ∙ stored_there 0 (0 ∷ e) m (omega (arith, c.requires))) ∙ written_front (0 ∷ e) m n (omega arith))

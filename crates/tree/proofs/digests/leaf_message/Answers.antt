@@ -15,6 +15,6 @@ returns c =
     let k : 1 + length e - 1 ≡ length e = omega arith in
     let lz : length (set xs 0 0) ≡ length xs = length-set xs 0 0 in
     let z : List ℕ = set xs 0 0 in
-    ap (put_mid 1 (1 + length e - 1) z) c.copy-from-slice.ensures.after
+    ap (put_mid 1 (1 + length e - 1) z) c.copy_from_slice.ensures.after
     ∙ ap (λ (t : List ℕ). take 1 z ++ (e ++ t)) (ap (λ (n : ℕ). drop n (drop 1 z)) k ∙ drop-drop (length e) 1 z)
     ∙ tag_written 0 e xs (omega arith) ∙ sym (stored_there 0 (0 ∷ e) xs (omega arith))

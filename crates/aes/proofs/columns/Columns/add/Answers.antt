@@ -7,6 +7,6 @@ use Rattle.aes.proofs.columns.Columns.add.Goals as goal
 pub returns : goal.returns
 returns c =
     let s = c.args.self in
-    xors_four s.a s.b s.c s.d _ _ _ _ c.load-word.result c.load-word-2.result c.load-word-3.result c.load-word-4.result
-    c.load-word.ensures c.load-word-2.ensures c.load-word-3.ensures c.load-word-4.ensures
+    xors_four s.a s.b s.c s.d _ _ _ _ c.load_word.result c.load_word-2.result c.load_word-3.result c.load_word-4.result
+    c.load_word.ensures c.load_word-2.ensures c.load_word-3.ensures c.load_word-4.ensures
     ∙ ap (λ (l : List ℕ). xors (state_of s) l) (sym (sixteen_at c.args.keys.now (16 * c.args.j)))

@@ -1,4 +1,4 @@
-use Rattle.std.proofs.Common.{◌≡◌, ℕ, ◌+◌, ◌<◌, List, ◌++◌, length, sym, ap, ◌∙◌, arith, length-append}
+use Rattle.std.proofs.Common.{◌+◌, ◌<◌, length, sym, ap, ◌∙◌, arith}
 use Rattle.cipher.specs.Bytes.{little, written}
 use Rattle.cipher.specs.Blocks.{block_bytes}
 use Rattle.cipher.proofs.Littles.{length_little, length_block}
@@ -21,7 +21,7 @@ returns c =
     let d = c.args.self in
     let i = c.args.at in
     let xs = c.args.into.now in
-    c.store-word-2.ensures
-    ∙ ap (λ l. written (i + 8) (little 8 d.hi) l) c.store-word.ensures
+    c.store_word-2.ensures
+    ∙ ap (λ l. written (i + 8) (little 8 d.hi) l) c.store_word.ensures
     ∙ written_written xs i (little 8 d.lo) (little 8 d.hi) 8 (length_little 8 d.lo) (omega (arith, length_little 8 d.hi))
     ∙ sym (stored_there i (block_bytes d) xs (omega (arith, length_block d)))
