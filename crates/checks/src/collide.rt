@@ -13,7 +13,7 @@ use refusal::Refusal;
 
 // That two inputs of the compression differ and have one output.
 pub fn check_collision<C: Compression>(c: &C, collision: &[u8]) -> Result<(), Refusal>
-    ensures { result ≡ check_collision_answer (from_zeros Value-as-Words.width C.Compression.f) collision.now }
+    ensures { result ≡ check_collision_answer (from_zeros C.Value.Words.width C.Compression.f) collision.now }
 {
     let pair = read_collision::<C::Value>(1, collision)?;
     if !collides(c, pair) {

@@ -6,9 +6,9 @@ use cipher::words::Words;
 use hash::compress::Compression;
 
 pub(crate) fn proofs_pass<C: Compression>()
-    ensures { ProofsPass (from_zeros Value-as-Words.width C.Compression.f) }
+    ensures { ProofsPass (from_zeros C.Value.Words.width C.Compression.f) }
 {}
 
 pub(crate) fn links_pass<C: Compression>()
-    ensures { LinksPass (from_zeros Value-as-Words.width C.Compression.f) }
+    ensures { LinksPass (from_zeros C.Value.Words.width C.Compression.f) }
 {}

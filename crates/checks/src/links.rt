@@ -21,8 +21,8 @@ pub fn check_link<C: Compression>(
     link: &[u8],
     spans: &mut [Span],
 ) -> Result<(), Refusal>
-    ensures answer { result ≡ check_link_answer (from_zeros Value-as-Words.width C.Compression.f) (length spans.old) old.now new.now link.now }
-    ensures passes { LinksPass (from_zeros Value-as-Words.width C.Compression.f) }
+    ensures answer { result ≡ check_link_answer (from_zeros C.Value.Words.width C.Compression.f) (length spans.old) old.now new.now link.now }
+    ensures passes { LinksPass (from_zeros C.Value.Words.width C.Compression.f) }
 {
     links_pass::<C>();
     checked(c, old, new, link, spans)
@@ -35,7 +35,7 @@ fn checked<C: Compression>(
     link: &[u8],
     spans: &mut [Span],
 ) -> Result<(), Refusal>
-    ensures { result ≡ check_link_answer (from_zeros Value-as-Words.width C.Compression.f) (length spans.old) old.now new.now link.now }
+    ensures { result ≡ check_link_answer (from_zeros C.Value.Words.width C.Compression.f) (length spans.old) old.now new.now link.now }
 {
     enough(spans.len())?;
     let old = read_head::<C::Value>(1, old)?;

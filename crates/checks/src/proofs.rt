@@ -22,8 +22,8 @@ pub fn check_proof<C: Compression>(
     proof: &[u8],
     spans: &mut [Span],
 ) -> Result<(), Refusal>
-    ensures answer { result ≡ check_proof_answer (from_zeros Value-as-Words.width C.Compression.f) (length spans.old) head.now entry.now proof.now }
-    ensures passes { ProofsPass (from_zeros Value-as-Words.width C.Compression.f) }
+    ensures answer { result ≡ check_proof_answer (from_zeros C.Value.Words.width C.Compression.f) (length spans.old) head.now entry.now proof.now }
+    ensures passes { ProofsPass (from_zeros C.Value.Words.width C.Compression.f) }
 {
     proofs_pass::<C>();
     checked(c, head, entry, proof, spans)
@@ -36,7 +36,7 @@ fn checked<C: Compression>(
     proof: &[u8],
     spans: &mut [Span],
 ) -> Result<(), Refusal>
-    ensures { result ≡ check_proof_answer (from_zeros Value-as-Words.width C.Compression.f) (length spans.old) head.now entry.now proof.now }
+    ensures { result ≡ check_proof_answer (from_zeros C.Value.Words.width C.Compression.f) (length spans.old) head.now entry.now proof.now }
 {
     enough(spans.len())?;
     let head = read_head::<C::Value>(1, head)?;

@@ -65,8 +65,8 @@ fn pair_at<C: Compression>(
 fn same_from<C: Compression>(c: &C, x: &[u8], y: &[u8]) -> usize
     requires { length x.now ≡ length y.now }
     ensures few { result ≤ length (blocks x.now) }
-    ensures same { (j : ℕ) → result ≤ j → j < length (blocks x.now) → value_before (from_zeros Value-as-Words.width C.Compression.f) x.now j ≡ value_before (from_zeros Value-as-Words.width C.Compression.f) y.now j }
-    ensures apart { (j : ℕ) → result ≡ j + 1 → value_before (from_zeros Value-as-Words.width C.Compression.f) x.now j ≢ value_before (from_zeros Value-as-Words.width C.Compression.f) y.now j }
+    ensures same { (j : ℕ) → result ≤ j → j < length (blocks x.now) → value_before (from_zeros C.Value.Words.width C.Compression.f) x.now j ≡ value_before (from_zeros C.Value.Words.width C.Compression.f) y.now j }
+    ensures apart { (j : ℕ) → result ≡ j + 1 → value_before (from_zeros C.Value.Words.width C.Compression.f) x.now j ≢ value_before (from_zeros C.Value.Words.width C.Compression.f) y.now j }
 {
     let mut first = value_before(c, x, 0);
     let mut second = value_before(c, y, 0);
@@ -109,7 +109,7 @@ fn same_at(x: &[u8], y: &[u8], from: usize, k: usize) -> bool
 // chaining values are the same; the way back then compares blocks alone.
 fn parts_at<C: Compression>(c: &C, x: &[u8], y: &[u8]) -> Option<usize>
     requires { length x.now ≡ length y.now }
-    ensures { MatchOption result (inputs_apart (from_zeros Value-as-Words.width C.Compression.f) x.now y.now ≡ None) (λ k. inputs_apart (from_zeros Value-as-Words.width C.Compression.f) x.now y.now ≡ both (slice_get (inputs_of (from_zeros Value-as-Words.width C.Compression.f) x.now) k) (slice_get (inputs_of (from_zeros Value-as-Words.width C.Compression.f) y.now) k)) }
+    ensures { MatchOption result (inputs_apart (from_zeros C.Value.Words.width C.Compression.f) x.now y.now ≡ None) (λ k. inputs_apart (from_zeros C.Value.Words.width C.Compression.f) x.now y.now ≡ both (slice_get (inputs_of (from_zeros C.Value.Words.width C.Compression.f) x.now) k) (slice_get (inputs_of (from_zeros C.Value.Words.width C.Compression.f) y.now) k)) }
 {
     let from = same_from(c, x, y);
     let mut k = last_block(x) + 1;

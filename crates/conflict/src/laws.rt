@@ -6,25 +6,25 @@ use cipher::words::Words;
 use hash::compress::Compression;
 
 pub(crate) fn messages_exact<C: Compression>()
-    ensures { MessagesExact (from_zeros Value-as-Words.width C.Compression.f) }
+    ensures { MessagesExact (from_zeros C.Value.Words.width C.Compression.f) }
 {}
 
 pub(crate) fn messages_written<C: Compression>()
-    ensures { MessagesWritten (from_zeros Value-as-Words.width C.Compression.f) }
+    ensures { MessagesWritten (from_zeros C.Value.Words.width C.Compression.f) }
 {}
 
 pub(crate) fn proofs_exact<C: Compression>()
-    ensures { ProofsExact (from_zeros Value-as-Words.width C.Compression.f) }
+    ensures { ProofsExact (from_zeros C.Value.Words.width C.Compression.f) }
 {}
 
 pub(crate) fn proofs_written<C: Compression>()
-    ensures { ProofsWritten (from_zeros Value-as-Words.width C.Compression.f) }
+    ensures { ProofsWritten (from_zeros C.Value.Words.width C.Compression.f) }
 {}
 
 pub(crate) fn links_exact<C: Compression>()
-    ensures { LinksExact (from_zeros Value-as-Words.width C.Compression.f) }
+    ensures { LinksExact (from_zeros C.Value.Words.width C.Compression.f) }
 {}
 
 pub(crate) fn links_written<C: Compression>()
-    ensures { LinksWritten (from_zeros Value-as-Words.width C.Compression.f) }
+    ensures { LinksWritten (from_zeros C.Value.Words.width C.Compression.f) }
 {}

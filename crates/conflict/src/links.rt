@@ -36,10 +36,10 @@ pub fn conflict_links<C: Compression>(
     spans: &mut [Span],
     out: &mut [u8],
 ) -> Result<usize, Refusal>
-    ensures answer { result ≡ length_of (conflict_links_answer (from_zeros Value-as-Words.width C.Compression.f) (length spans.old) (length out.old) old.now link.now other_old.now other_link.now new.now) }
-    ensures output { out.new ≡ output_after (conflict_links_answer (from_zeros Value-as-Words.width C.Compression.f) (length spans.old) (length out.old) old.now link.now other_old.now other_link.now new.now) out.old }
-    ensures exact { LinksExact (from_zeros Value-as-Words.width C.Compression.f) }
-    ensures written { LinksWritten (from_zeros Value-as-Words.width C.Compression.f) }
+    ensures answer { result ≡ length_of (conflict_links_answer (from_zeros C.Value.Words.width C.Compression.f) (length spans.old) (length out.old) old.now link.now other_old.now other_link.now new.now) }
+    ensures output { out.new ≡ output_after (conflict_links_answer (from_zeros C.Value.Words.width C.Compression.f) (length spans.old) (length out.old) old.now link.now other_old.now other_link.now new.now) out.old }
+    ensures exact { LinksExact (from_zeros C.Value.Words.width C.Compression.f) }
+    ensures written { LinksWritten (from_zeros C.Value.Words.width C.Compression.f) }
 {
     links_exact::<C>();
     links_written::<C>();
@@ -56,8 +56,8 @@ fn found<C: Compression>(
     spans: &mut [Span],
     out: &mut [u8],
 ) -> Result<usize, Refusal>
-    ensures answer { result ≡ length_of (conflict_links_answer (from_zeros Value-as-Words.width C.Compression.f) (length spans.old) (length out.old) old.now link.now other_old.now other_link.now new.now) }
-    ensures output { out.new ≡ output_after (conflict_links_answer (from_zeros Value-as-Words.width C.Compression.f) (length spans.old) (length out.old) old.now link.now other_old.now other_link.now new.now) out.old }
+    ensures answer { result ≡ length_of (conflict_links_answer (from_zeros C.Value.Words.width C.Compression.f) (length spans.old) (length out.old) old.now link.now other_old.now other_link.now new.now) }
+    ensures output { out.new ≡ output_after (conflict_links_answer (from_zeros C.Value.Words.width C.Compression.f) (length spans.old) (length out.old) old.now link.now other_old.now other_link.now new.now) out.old }
 {
     let two = accepted(c, old, link, other_old, other_link, new, spans)?;
     if both_same(old, other_old, link, other_link) {

@@ -24,10 +24,10 @@ pub fn conflict_messages<C: Compression>(
     y: &[u8],
     out: &mut [u8],
 ) -> Result<usize, Refusal>
-    ensures answer { result ≡ length_of (conflict_messages_answer (from_zeros Value-as-Words.width C.Compression.f) (length out.old) x.now y.now) }
-    ensures output { out.new ≡ output_after (conflict_messages_answer (from_zeros Value-as-Words.width C.Compression.f) (length out.old) x.now y.now) out.old }
-    ensures exact { MessagesExact (from_zeros Value-as-Words.width C.Compression.f) }
-    ensures written { MessagesWritten (from_zeros Value-as-Words.width C.Compression.f) }
+    ensures answer { result ≡ length_of (conflict_messages_answer (from_zeros C.Value.Words.width C.Compression.f) (length out.old) x.now y.now) }
+    ensures output { out.new ≡ output_after (conflict_messages_answer (from_zeros C.Value.Words.width C.Compression.f) (length out.old) x.now y.now) out.old }
+    ensures exact { MessagesExact (from_zeros C.Value.Words.width C.Compression.f) }
+    ensures written { MessagesWritten (from_zeros C.Value.Words.width C.Compression.f) }
 {
     messages_exact::<C>();
     messages_written::<C>();
@@ -35,8 +35,8 @@ pub fn conflict_messages<C: Compression>(
 }
 
 fn found<C: Compression>(c: &C, x: &[u8], y: &[u8], out: &mut [u8]) -> Result<usize, Refusal>
-    ensures answer { result ≡ length_of (conflict_messages_answer (from_zeros Value-as-Words.width C.Compression.f) (length out.old) x.now y.now) }
-    ensures output { out.new ≡ output_after (conflict_messages_answer (from_zeros Value-as-Words.width C.Compression.f) (length out.old) x.now y.now) out.old }
+    ensures answer { result ≡ length_of (conflict_messages_answer (from_zeros C.Value.Words.width C.Compression.f) (length out.old) x.now y.now) }
+    ensures output { out.new ≡ output_after (conflict_messages_answer (from_zeros C.Value.Words.width C.Compression.f) (length out.old) x.now y.now) out.old }
 {
     short(x, 1)?;
     short(y, 2)?;

@@ -36,10 +36,10 @@ pub fn conflict_proofs<C: Compression>(
     spans: &mut [Span],
     out: &mut [u8],
 ) -> Result<usize, Refusal>
-    ensures answer { result ≡ length_of (conflict_proofs_answer (from_zeros Value-as-Words.width C.Compression.f) (length spans.old) (length out.old) head.now entry.now proof.now other_entry.now other_proof.now) }
-    ensures output { out.new ≡ output_after (conflict_proofs_answer (from_zeros Value-as-Words.width C.Compression.f) (length spans.old) (length out.old) head.now entry.now proof.now other_entry.now other_proof.now) out.old }
-    ensures exact { ProofsExact (from_zeros Value-as-Words.width C.Compression.f) }
-    ensures written { ProofsWritten (from_zeros Value-as-Words.width C.Compression.f) }
+    ensures answer { result ≡ length_of (conflict_proofs_answer (from_zeros C.Value.Words.width C.Compression.f) (length spans.old) (length out.old) head.now entry.now proof.now other_entry.now other_proof.now) }
+    ensures output { out.new ≡ output_after (conflict_proofs_answer (from_zeros C.Value.Words.width C.Compression.f) (length spans.old) (length out.old) head.now entry.now proof.now other_entry.now other_proof.now) out.old }
+    ensures exact { ProofsExact (from_zeros C.Value.Words.width C.Compression.f) }
+    ensures written { ProofsWritten (from_zeros C.Value.Words.width C.Compression.f) }
 {
     proofs_exact::<C>();
     proofs_written::<C>();
@@ -56,8 +56,8 @@ fn found<C: Compression>(
     spans: &mut [Span],
     out: &mut [u8],
 ) -> Result<usize, Refusal>
-    ensures answer { result ≡ length_of (conflict_proofs_answer (from_zeros Value-as-Words.width C.Compression.f) (length spans.old) (length out.old) head.now entry.now proof.now other_entry.now other_proof.now) }
-    ensures output { out.new ≡ output_after (conflict_proofs_answer (from_zeros Value-as-Words.width C.Compression.f) (length spans.old) (length out.old) head.now entry.now proof.now other_entry.now other_proof.now) out.old }
+    ensures answer { result ≡ length_of (conflict_proofs_answer (from_zeros C.Value.Words.width C.Compression.f) (length spans.old) (length out.old) head.now entry.now proof.now other_entry.now other_proof.now) }
+    ensures output { out.new ≡ output_after (conflict_proofs_answer (from_zeros C.Value.Words.width C.Compression.f) (length spans.old) (length out.old) head.now entry.now proof.now other_entry.now other_proof.now) out.old }
 {
     let two = accepted(c, head, entry, proof, other_entry, other_proof, spans)?;
     if both_same(entry, other_entry, proof, other_proof) {
@@ -90,8 +90,8 @@ fn accepted<'a, 'b, C: Compression>(
     other_proof: &'b [u8],
     spans: &mut [Span],
 ) -> Result<TwoProofs<'a, 'b>, Refusal>
-    ensures answer { result_map_both (two_proofs_of Value-as-Words.width) (λ (e : TheRefusal). e) result ≡ two_proofs (from_zeros Value-as-Words.width C.Compression.f) (length spans.old) head.now entry.now proof.now other_entry.now other_proof.now }
-    ensures whole { IfOk result (λ t. WholeDigests Value-as-Words.width t.first.path.now × WholeDigests Value-as-Words.width t.second.path.now) }
+    ensures answer { result_map_both (two_proofs_of C.Value.Words.width) (λ (e : TheRefusal). e) result ≡ two_proofs (from_zeros C.Value.Words.width C.Compression.f) (length spans.old) head.now entry.now proof.now other_entry.now other_proof.now }
+    ensures whole { IfOk result (λ t. WholeDigests C.Value.Words.width t.first.path.now × WholeDigests C.Value.Words.width t.second.path.now) }
 {
     enough(spans.len())?;
     let h = read_head::<C::Value>(1, head)?;

@@ -64,7 +64,7 @@ fn hash_message<'a, C: Compression>(
 }
 
 fn hash_answer<C: Compression>(c: &C, heap: Global, message: &[u8]) -> Result<Answer, AllocError>
-    ensures { IfOk result (λ a. told a ≡ hash_answer (from_zeros Value-as-Words.width C.Compression.f) message.now) }
+    ensures { IfOk result (λ a. told a ≡ hash_answer (from_zeros C.Value.Words.width C.Compression.f) message.now) }
 {
     match hash(c, message) {
         Ok(digest) => Ok(Answer::Bytes(bytes_of(heap, digest)?)),

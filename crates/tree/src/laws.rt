@@ -7,5 +7,5 @@ use hash::compress::Compression;
 
 // The tree splits at the largest power of two below its size, and what is made from the leaves rebuilds the roots.
 pub fn tree_laws<C: Compression>()
-    ensures { TreeLaws (from_zeros Value-as-Words.width C.Compression.f) }
+    ensures { TreeLaws (from_zeros C.Value.Words.width C.Compression.f) }
 {}

@@ -11,7 +11,7 @@ use Rattle.checks.proofs.links.checked.Goals as goal
 
 pub returns : goal.returns
 returns g c =
-    let w : ℕ = g.Value.Words.width in
+    let w : ℕ = g.C.Value.Words.width in
     let F = from_zeros w g.C.Compression.f in
     let cells : ℕ = length c.args.spans.now in
     let l = c.in-ok-link.link in
@@ -21,5 +21,5 @@ returns g c =
     c.linked.ensures
     ∙ ap (λ (t : Bool). must t (WrongRoot 3 0))
     (link_roots_are F cells enough l.old l.new l.digests.now (link_read w 3 c.args.link.now (link_of w l) read).0 c.in-ok-link.ensures.whole
-    (g.Value.Words.bytes c.in-ok-old.old.root) (g.Value.Words.bytes c.in-ok-new.new.root))
+    (g.C.Value.Words.bytes c.in-ok-old.old.root) (g.C.Value.Words.bytes c.in-ok-new.new.root))
     ∙ sym (through TooFewCells _ some ∙ bound _ (sym c.in-ok-old.ensures) ∙ bound _ (sym c.in-ok-new.ensures) ∙ bound _ read ∙ through (OtherNumbers 3 0) _ (sym c.joins.ensures ∙ must_last c.joins.result (OtherNumbers 3 0) (sym c.in-ok-same-numbers.ensures)))

@@ -9,7 +9,7 @@ overflow-add-k g c = record { fits = omega (arith, c.last-block-k.ensures, lengt
 
 pub loop-k-init : goal.loop-k-init
 loop-k-init g c =
-    let F = from_zeros g.Value.Words.width g.C.Compression.f in
+    let F = from_zeros g.C.Value.Words.width g.C.Compression.f in
     let x : List ℕ = c.args.x.now in
     let y : List ℕ = c.args.y.now in
     let e = c.last-block-k.ensures in
@@ -19,7 +19,7 @@ loop-k-init g c =
 
 pub loop-k-preserved : goal.loop-k-preserved
 loop-k-preserved g c =
-    let F = from_zeros g.Value.Words.width g.C.Compression.f in
+    let F = from_zeros g.C.Value.Words.width g.C.Compression.f in
     let x : List ℕ = c.args.x.now in
     let y : List ℕ = c.args.y.now in
     let k : ℕ = c.loop-k.k - 1 in
@@ -38,7 +38,7 @@ loop-k-preserved g c =
 
 pub returns : goal.returns
 returns g c =
-    let F = from_zeros g.Value.Words.width g.C.Compression.f in
+    let F = from_zeros g.C.Value.Words.width g.C.Compression.f in
     let x : List ℕ = c.args.x.now in
     let y : List ℕ = c.args.y.now in
     let k : ℕ = c.loop-k.k - 1 in

@@ -26,9 +26,9 @@ returns-in-default-padded-block g c =
 
 pub loop-k-preserved : goal.loop-k-preserved
 loop-k-preserved g c =
-    let b = g.Value.Words.bytes in
+    let b = g.C.Value.Words.bytes in
     let f = g.C.Compression.f in
-    let F = from_zeros g.Value.Words.width f in
+    let F = from_zeros g.C.Value.Words.width f in
     let x : List ℕ = c.args.x.now in
     let y : List ℕ = c.args.y.now in
     let k : ℕ = c.loop-k.k in

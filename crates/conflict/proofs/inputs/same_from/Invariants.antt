@@ -4,9 +4,9 @@ use Rattle.conflict.proofs.inputs.same_from.Given as goal
 
 abbrev pub invariant-loop-k : goal.invariant-loop-k
 invariant-loop-k g l =
-    let F = from_zeros g.Value.Words.width g.C.Compression.f in
-    (g.Value.Words.bytes l.first ≡ value_before F l.x l.k)
-    × (g.Value.Words.bytes l.second ≡ value_before F l.y l.k)
+    let F = from_zeros g.C.Value.Words.width g.C.Compression.f in
+    (g.C.Value.Words.bytes l.first ≡ value_before F l.x l.k)
+    × (g.C.Value.Words.bytes l.second ≡ value_before F l.y l.k)
     × (l.from ≤ l.k)
     × ((j : ℕ) → l.from ≤ j → j < l.k → value_before F l.x j ≡ value_before F l.y j)
     × ((j : ℕ) → l.from ≡ j + 1 → value_before F l.x j ≡ value_before F l.y j → ⊥)

@@ -7,7 +7,7 @@ use Rattle.conflict.proofs.laws.messages_exact.Goals as goal
 
 pub returns : goal.returns
 returns g c =
-    let w : ℕ = g.Value.Words.width in
+    let w : ℕ = g.C.Value.Words.width in
     let F : Hashing = from_zeros w g.C.Compression.f in
     let sized : Sized F = sized_from w g.C.Compression.f g.met.Value.Words.least g.met.Value.Words.most g.met.C.Compression.outputs in
     messages_exact F sized

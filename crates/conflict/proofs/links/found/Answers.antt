@@ -16,7 +16,7 @@ use Rattle.conflict.proofs.links.found.Goals as goal
 
 pub returns-in-err-two : goal.returns-in-err-two
 returns-in-err-two g c =
-    let w : ℕ = g.Value.Words.width in
+    let w : ℕ = g.C.Value.Words.width in
     let F = from_zeros w g.C.Compression.f in
     let cells : ℕ = length c.args.spans.now in
     let out : Bytes = c.args.out.now in
@@ -28,8 +28,8 @@ returns-in-err-two g c =
 
 pub returns-then-both-same : goal.returns-then-both-same
 returns-then-both-same g c =
-    let w : ℕ = g.Value.Words.width in
-    let b = g.Value.Words.bytes in
+    let w : ℕ = g.C.Value.Words.width in
+    let b = g.C.Value.Words.bytes in
     let F = from_zeros w g.C.Compression.f in
     let cells : ℕ = length c.args.spans.now in
     let out : Bytes = c.args.out.now in
@@ -42,8 +42,8 @@ returns-then-both-same g c =
 
 pub returns-in-default : goal.returns-in-default
 returns-in-default g c =
-    let w : ℕ = g.Value.Words.width in
-    let b = g.Value.Words.bytes in
+    let w : ℕ = g.C.Value.Words.width in
+    let b = g.C.Value.Words.bytes in
     let F = from_zeros w g.C.Compression.f in
     let cells : ℕ = length c.args.spans.now in
     let out : Bytes = c.args.out.now in
@@ -75,8 +75,8 @@ returns-in-default g c =
 
 pub returns : goal.returns
 returns g c =
-    let w : ℕ = g.Value.Words.width in
-    let b = g.Value.Words.bytes in
+    let w : ℕ = g.C.Value.Words.width in
+    let b = g.C.Value.Words.bytes in
     let F = from_zeros w g.C.Compression.f in
     let cells : ℕ = length c.args.spans.now in
     let out : Bytes = c.args.out.now in

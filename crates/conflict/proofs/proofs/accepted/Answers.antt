@@ -18,8 +18,8 @@ use Rattle.conflict.proofs.proofs.accepted.Goals as goal
 
 pub returns-in-err-x : goal.returns-in-err-x
 returns-in-err-x g c =
-    let w : ℕ = g.Value.Words.width in
-    let b = g.Value.Words.bytes in
+    let w : ℕ = g.C.Value.Words.width in
+    let b = g.C.Value.Words.bytes in
     let F = from_zeros w g.C.Compression.f in
     let cells : ℕ = length c.args.spans.now in
     let some = must_last (leb 21 cells) TooFewCells (sym c.in-ok-enough.ensures) in
@@ -32,8 +32,8 @@ returns-in-err-x g c =
 
 pub returns-in-err-y : goal.returns-in-err-y
 returns-in-err-y g c =
-    let w : ℕ = g.Value.Words.width in
-    let b = g.Value.Words.bytes in
+    let w : ℕ = g.C.Value.Words.width in
+    let b = g.C.Value.Words.bytes in
     let F = from_zeros w g.C.Compression.f in
     let cells : ℕ = length c.args.spans.now in
     let some = must_last (leb 21 cells) TooFewCells (sym c.in-ok-enough.ensures) in
@@ -49,8 +49,8 @@ returns-in-err-y g c =
 
 pub returns-in-err-proven : goal.returns-in-err-proven
 returns-in-err-proven g c =
-    let w : ℕ = g.Value.Words.width in
-    let b = g.Value.Words.bytes in
+    let w : ℕ = g.C.Value.Words.width in
+    let b = g.C.Value.Words.bytes in
     let F = from_zeros w g.C.Compression.f in
     let cells : ℕ = length c.args.spans.now in
     let some = must_last (leb 21 cells) TooFewCells (sym c.in-ok-enough.ensures) in
@@ -81,8 +81,8 @@ returns-in-err-proven g c =
 
 pub returns-in-err-proven-2 : goal.returns-in-err-proven-2
 returns-in-err-proven-2 g c =
-    let w : ℕ = g.Value.Words.width in
-    let b = g.Value.Words.bytes in
+    let w : ℕ = g.C.Value.Words.width in
+    let b = g.C.Value.Words.bytes in
     let F = from_zeros w g.C.Compression.f in
     let cells : ℕ = length c.args.spans.now in
     let some = must_last (leb 21 cells) TooFewCells (sym c.in-ok-enough.ensures) in
@@ -120,8 +120,8 @@ returns-in-err-proven-2 g c =
 
 pub returns : goal.returns
 returns g c =
-    let w : ℕ = g.Value.Words.width in
-    let b = g.Value.Words.bytes in
+    let w : ℕ = g.C.Value.Words.width in
+    let b = g.C.Value.Words.bytes in
     let F = from_zeros w g.C.Compression.f in
     let cells : ℕ = length c.args.spans.now in
     let some = must_last (leb 21 cells) TooFewCells (sym c.in-ok-enough.ensures) in

@@ -13,8 +13,8 @@ use Rattle.conflict.proofs.proofs.found.Goals as goal
 
 pub returns-in-default : goal.returns-in-default
 returns-in-default g c =
-    let w : ℕ = g.Value.Words.width in
-    let b = g.Value.Words.bytes in
+    let w : ℕ = g.C.Value.Words.width in
+    let b = g.C.Value.Words.bytes in
     let F = from_zeros w g.C.Compression.f in
     let cells : ℕ = length c.args.spans.now in
     let later : ℕ = length c.accepted.new.spans in
@@ -37,8 +37,8 @@ returns-in-default g c =
 
 pub returns : goal.returns
 returns g c =
-    let w : ℕ = g.Value.Words.width in
-    let b = g.Value.Words.bytes in
+    let w : ℕ = g.C.Value.Words.width in
+    let b = g.C.Value.Words.bytes in
     let F = from_zeros w g.C.Compression.f in
     let cells : ℕ = length c.args.spans.now in
     let later : ℕ = length c.accepted.new.spans in
