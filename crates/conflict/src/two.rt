@@ -8,11 +8,10 @@ pub(crate) struct TwoProofs<'a, 'b> {
 }
 
 // Each link stands with its old root.
+#[derive(Clone, Copy)]
 pub(crate) struct TwoLinks<'a, 'b, D> {
     pub(crate) old: D,
     pub(crate) first: Link<'a>,
     pub(crate) other_old: D,
     pub(crate) second: Link<'b>,
 }
-
-impl<D: Copy> Copy for TwoLinks<'_, '_, D> {}

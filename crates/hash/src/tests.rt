@@ -27,12 +27,12 @@ fn edge(
 ) -> Result<(), Fail> {
     let message = counted(heap, len)?;
     let message = message.as_slice();
-    assert!(rt; padded_block(message, blocks).is_none());
-    assert!(rt; blocks > 0);
-    assert!(rt; padded_block(message, blocks - 1).is_some());
+    assert!(rt; padded_block(message, blocks).is_none(), "{len} bytes");
+    assert!(rt; blocks > 0, "{len} bytes");
+    assert!(rt; padded_block(message, blocks - 1).is_some(), "{len} bytes");
     match hash(&Fold, message) {
         Ok(digest) => {
-            assert!(rt; digest.lo == lo && digest.hi == hi);
+            assert!(rt; digest.lo == lo && digest.hi == hi, "{len} bytes");
             Ok(())
         },
         Err(_) => Err(Fail::new("refused")),
@@ -42,13 +42,13 @@ fn edge(
 #[test]
 fn edges(rt: HostRuntime) -> Result<(), Fail> {
     let heap = rt.alloc();
-    edge(&rt, heap, 0, 1, 0x0000000000000080, 0x0000000000000000).note("0")?;
-    edge(&rt, heap, 7, 1, 0x8006050403020100, 0x0000000000000007).note("7")?;
-    edge(&rt, heap, 8, 2, 0x0706050403020100, 0x0000000000000088).note("8")?;
-    edge(&rt, heap, 15, 2, 0x0706050403020100, 0x800e0d0c0b0a0907).note("15")?;
-    edge(&rt, heap, 16, 2, 0x0706050403020180, 0x0f0e0d0c0b0a0918).note("16")?;
-    edge(&rt, heap, 23, 2, 0x8710101010101010, 0x0f0e0d0c0b0a091f).note("23")?;
-    edge(&rt, heap, 24, 3, 0x1010101010101010, 0x0f0e0d0c0b0a0990).note("24")?;
+    edge(&rt, heap, 0, 1, 0x0000000000000080, 0x0000000000000000)?;
+    edge(&rt, heap, 7, 1, 0x8006050403020100, 0x0000000000000007)?;
+    edge(&rt, heap, 8, 2, 0x0706050403020100, 0x0000000000000088)?;
+    edge(&rt, heap, 15, 2, 0x0706050403020100, 0x800e0d0c0b0a0907)?;
+    edge(&rt, heap, 16, 2, 0x0706050403020180, 0x0f0e0d0c0b0a0918)?;
+    edge(&rt, heap, 23, 2, 0x8710101010101010, 0x0f0e0d0c0b0a091f)?;
+    edge(&rt, heap, 24, 3, 0x1010101010101010, 0x0f0e0d0c0b0a0990)?;
     edge(
         &rt,
         heap,
@@ -57,7 +57,6 @@ fn edges(rt: HostRuntime) -> Result<(), Fail> {
         0x77707172737c7dfe,
         0x1415161710647576,
     )
-    .note("1048576")
 }
 
 #[test]

@@ -16,30 +16,27 @@ use tree::digests::node;
 use tree::spans::{LARGEST, Span};
 
 // What stands under a node.
+#[derive(Clone, Copy)]
 pub struct Node<D> {
     pub left: D,
     pub right: D,
 }
 
-impl<D: Copy> Copy for Node<D> {}
-
 // Where two ways part: at two nodes, or below all of their nodes.
+#[derive(Clone, Copy)]
 pub enum Apart<D> {
     Nowhere,
     Below,
     Nodes { first: Node<D>, second: Node<D> },
 }
 
-impl<D: Copy> Copy for Apart<D> {}
-
 // How far two ways have come up, and where they part so far.
+#[derive(Clone, Copy)]
 struct Ways<D> {
     first: D,
     second: D,
     apart: Apart<D>,
 }
-
-impl<D: Copy> Copy for Ways<D> {}
 
 // The node over a digest, which stands at the low or at the high side of the one beside it.
 fn over<D: Copy>(low: bool, digest: D, beside: D) -> Node<D>

@@ -18,12 +18,11 @@ use tree::digests::node;
 use tree::spans::{LARGEST, Span};
 
 // The two roots that a link rebuilds.
+#[derive(Clone, Copy)]
 pub struct Roots<D> {
     pub old: D,
     pub new: D,
 }
-
-impl<D: Copy> Copy for Roots<D> {}
 
 // The node over a digest, which stands at the low or at the high side of the one beside it.
 fn join<C: Compression>(c: &C, low: bool, digest: C::Value, beside: C::Value) -> C::Value

@@ -4,14 +4,13 @@ ghost use Rattle.tree.specs.Spans.{largest};
 
 use tree::spans::LARGEST;
 
+#[derive(Clone, Copy)]
 pub struct Head<D> {
     size: u32,
     root: D,
     ghost some: { 1 ≤ size },
     ghost most: { size ≤ largest },
 }
-
-impl<D: Copy> Copy for Head<D> {}
 
 impl<D: Copy> Head<D> {
     // The head, if a log can have so many leaves.

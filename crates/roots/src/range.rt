@@ -20,12 +20,11 @@ use tree::spans::LARGEST;
 pub const CELLS: usize = 21;
 
 // The root over 2 ^ `height` leaves.
+#[derive(Clone, Copy)]
 pub struct Subtree<D> {
     pub height: u8,
     pub digest: D,
 }
-
-impl<D: Copy> Copy for Subtree<D> {}
 
 // Adds a leaf to the subtrees on the stack, and joins subtrees of one height.
 fn settle<C: Compression>(
