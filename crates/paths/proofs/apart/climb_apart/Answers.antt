@@ -10,8 +10,8 @@ use Rattle.paths.proofs.Parting.{parts_step}
 use Rattle.paths.proofs.Writing.{one_less}
 use Rattle.paths.proofs.apart.climb_apart.Goals as goal
 
-pub returns-in-err-first : goal.returns-in-err-first
-returns-in-err-first g c =
+pub returns-in_err-first : goal.returns-in_err-first
+returns-in_err-first g c =
     let w : ℕ = g.C.Value.Words.width in
     let l = c.loop-span in
     let k = l.spans.len in
@@ -19,10 +19,10 @@ returns-in-err-first g c =
     let q = c.in-Some.ensures in
     let e = one_less w k j (one_off k j q.places.0 q.some) in
     let v = l.invariant.0 in
-    absurd (not_loaded g.C.Value.Words.bytes l.at w c.args.path.now (omega arith) c.in-err-first.ensures)
+    absurd (not_loaded g.C.Value.Words.bytes l.at w c.args.path.now (omega arith) c.in_err-first.ensures)
 
-pub returns-in-err-second : goal.returns-in-err-second
-returns-in-err-second g c =
+pub returns-in_err-second : goal.returns-in_err-second
+returns-in_err-second g c =
     let w : ℕ = g.C.Value.Words.width in
     let l = c.loop-span in
     let k = l.spans.len in
@@ -30,7 +30,7 @@ returns-in-err-second g c =
     let q = c.in-Some.ensures in
     let e = one_less w k j (one_off k j q.places.0 q.some) in
     let v = l.invariant.1 in
-    absurd (not_loaded g.C.Value.Words.bytes l.at w c.args.other.now (omega arith) c.in-err-second.ensures)
+    absurd (not_loaded g.C.Value.Words.bytes l.at w c.args.other.now (omega arith) c.in_err-second.ensures)
 
 pub loop-span-preserved : goal.loop-span-preserved
 loop-span-preserved g c =
@@ -50,12 +50,12 @@ loop-span-preserved g c =
     let at = l.at in
     let xs = c.args.path.now in
     let ys = c.args.other.now in
-    let p = c.in-ok-first.first in
-    let p' = c.in-ok-second.second in
+    let p = c.in_ok-first.first in
+    let p' = c.in_ok-second.second in
     let r = c.rise-ways.result in
     let long = length_held c.pop.new.self in
-    let is = loaded b p at w xs (omega arith) c.in-ok-first.ensures in
-    let is' = loaded b p' at w ys (omega arith) c.in-ok-second.ensures in (
+    let is = loaded b p at w xs (omega arith) c.in_ok-first.ensures in
+    let is' = loaded b p' at w ys (omega arith) c.in_ok-second.ensures in (
       omega arith,
       omega arith,
       λ o.

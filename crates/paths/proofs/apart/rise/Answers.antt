@@ -5,7 +5,7 @@ use Rattle.paths.specs.declared.apart.Apart.TheVariants.{Nodes}
 use Rattle.paths.specs.Parts.{message_over}
 use Rattle.paths.proofs.Parting.{over_is, risen}
 use Rattle.paths.proofs.apart.rise.Goals as goal
-use Rattle.paths.proofs.apart.rise.Goals.{then-same-node, else-same-node}
+use Rattle.paths.proofs.apart.rise.Goals.{then-same_node, else-same_node}
 
 pub returns : goal.returns
 returns g c =
@@ -14,19 +14,19 @@ returns g c =
     let t = c.args.low in
     let x = c.args.ways.first in
     let y = c.args.ways.second in
-    let p = c.args.beside-first in
-    let q = c.args.beside-second in
+    let p = c.args.beside_first in
+    let q = c.args.beside_second in
     let u = c.over-first.result in
     let v = c.over-second.result in
     record {
       first = c.node.ensures ∙ over_is b (node_digest F) t x p u c.over-first.ensures;
       second = c.node-2.ensures ∙ over_is b (node_digest F) t y q v c.over-second.ensures;
       apart = λ o.
-          let way : ((c.same-node.result ≡ true) × (c.if-same-node.apart ≡ c.args.ways.apart)) ⊎ ((c.same-node.result ≡ false) × (c.if-same-node.apart ≡ Nodes u v)) =
-          elim c.if-same-node.branch [
-            | then-same-node w ↦ inl (w.if-same-node.true, w.apart-is)
-            | else-same-node w ↦ inr (w.if-same-node.false, w.apart-is)
+          let way : ((c.same_node.result ≡ true) × (c.if-same_node.apart ≡ c.args.ways.apart)) ⊎ ((c.same_node.result ≡ false) × (c.if-same_node.apart ≡ Nodes u v)) =
+          elim c.if-same_node.branch [
+            | then-same_node w ↦ inl (w.if-same_node.true, w.apart-is)
+            | else-same_node w ↦ inr (w.if-same_node.false, w.apart-is)
           ] in
-          risen b o c.if-same-node.apart c.args.ways.apart c.same-node.result u v (message_over t (b x) (b p)) (message_over t (b y) (b q))
-          (over_is b node_message t x p u c.over-first.ensures) (over_is b node_message t y q v c.over-second.ensures) c.same-node.ensures way;
+          risen b o c.if-same_node.apart c.args.ways.apart c.same_node.result u v (message_over t (b x) (b p)) (message_over t (b y) (b q))
+          (over_is b node_message t x p u c.over-first.ensures) (over_is b node_message t y q v c.over-second.ensures) c.same_node.ensures way;
     }

@@ -11,8 +11,8 @@ use Rattle.paths.proofs.Climbing.{climb_step, climb_old_step, loaded, not_loaded
 use Rattle.paths.proofs.Writing.{one_less}
 use Rattle.paths.proofs.rebuild.climb_link.Goals as goal
 
-pub returns-in-err-beside : goal.returns-in-err-beside
-returns-in-err-beside g c =
+pub returns-in_err-beside : goal.returns-in_err-beside
+returns-in_err-beside g c =
     let w : ℕ = g.C.Value.Words.width in
     let l = c.loop-span in
     let k = l.spans.len in
@@ -20,7 +20,7 @@ returns-in-err-beside g c =
     let q = c.in-Some.ensures in
     let e = one_less w k j (one_off k j q.places.0 q.some) in
     let v = l.invariant.0 in
-    absurd (not_loaded g.C.Value.Words.bytes l.at w c.args.link.now (omega arith) c.in-err-beside.ensures)
+    absurd (not_loaded g.C.Value.Words.bytes l.at w c.args.link.now (omega arith) c.in_err-beside.ensures)
 
 pub loop-span-preserved : goal.loop-span-preserved
 loop-span-preserved g c =
@@ -38,13 +38,13 @@ loop-span-preserved g c =
     let sized = c.size-width.ensures in
     let at = l.at in
     let xs = c.args.link.now in
-    let d = c.in-ok-beside.beside in
+    let d = c.in_ok-beside.beside in
     let long = length_held c.pop.new.self in
-    let is = loaded b d at w xs (omega arith) c.in-ok-beside.ensures in (
+    let is = loaded b d at w xs (omega arith) c.in_ok-beside.ensures in (
       omega arith,
-      ap (λ (v : ℕ). climb_old node (map (beside_end c.args.m) (held c.pop.new.self)) (b c.join-old-old.result) (reverse (cut w j (drop (at + v) xs)))) sized
-          ∙ climb_old_step node (λ (x : Span). leb c.args.m x.from) (held l.spans) (held c.pop.new.self) s w k j at xs (b l.old) (b d) (b c.join-old-old.result)
-          q.used up long is c.join-old-old.ensures
+      ap (λ (v : ℕ). climb_old node (map (beside_end c.args.m) (held c.pop.new.self)) (b c.join_old-old.result) (reverse (cut w j (drop (at + v) xs)))) sized
+          ∙ climb_old_step node (λ (x : Span). leb c.args.m x.from) (held l.spans) (held c.pop.new.self) s w k j at xs (b l.old) (b d) (b c.join_old-old.result)
+          q.used up long is c.join_old-old.ensures
           ∙ l.invariant.1,
       ap (λ (v : ℕ). climb node (map (beside_end c.args.m) (held c.pop.new.self)) (b c.join-new.result) (reverse (cut w j (drop (at + v) xs)))) sized
           ∙ climb_step node (λ (x : Span). leb c.args.m x.from) (held l.spans) (held c.pop.new.self) s w k j at xs (b l.new) (b d) (b c.join-new.result)

@@ -14,15 +14,15 @@ use Rattle.paths.specs.Ranges.{Within, span_digest}
 use Rattle.paths.proofs.Writing.{path_digests, stack_long, fits_at, size_told, bytes_told}
 use Rattle.paths.proofs.write.path_into.Goals as goal
 
-pub write-payload-requires : goal.write-payload-requires
-write-payload-requires g c =
+pub write_payload-requires : goal.write_payload-requires
+write_payload-requires g c =
     let n = c.args.n in
     let fresh = c.new-stack.ensures.empty in
     let q = c.in-Ok.ensures in
     let few = (stand (from_zeros g.C.Value.Words.width g.C.Compression.f)).path_most c.args.i n (omega arith) in
     let top : n ≤ length (g.L.Leaves.items c.args.leaves.now) = omega (arith, c.count.ensures.value) in
-    let is = filled c.new-stack.result (held c.push-path.new.spans) (reverse (path_spans c.args.i n)) fresh q.used in
-    let long = stack_long c.push-path.new.spans (path_spans c.args.i n) is in
+    let is = filled c.new-stack.result (held c.push_path.new.spans) (reverse (path_spans c.args.i n)) fresh q.used in
+    let long = stack_long c.push_path.new.spans (path_spans c.args.i n) is in
     record { cells = omega arith; few = omega arith; within = (n, omega arith, top, q.within (subst (Within n) (sym (held_none c.new-stack.result fresh)) tt)) }
 
 pub returns : goal.returns
@@ -36,16 +36,16 @@ returns g c =
     let fresh = c.new-stack.ensures.empty in
     let q = c.in-Ok.ensures in
     let top : n ≤ length xs = omega (arith, c.count.ensures.value) in
-    let is = filled c.new-stack.result (held c.push-path.new.spans) (reverse (path_spans k n)) fresh q.used in
-    let many = stack_long c.push-path.new.spans (path_spans k n) is in
-    let same : flat_map (span_digest F xs) (reverse (held c.push-path.new.spans)) ≡ flat_map (λ d. d) (path_of F xs k n) =
+    let is = filled c.new-stack.result (held c.push_path.new.spans) (reverse (path_spans k n)) fresh q.used in
+    let many = stack_long c.push_path.new.spans (path_spans k n) is in
+    let same : flat_map (span_digest F xs) (reverse (held c.push_path.new.spans)) ≡ flat_map (λ d. d) (path_of F xs k n) =
     ap (λ (ss : List Span). flat_map (span_digest F xs) (reverse ss)) is
     ∙ ap (flat_map (span_digest F xs)) (reverse-reverse (path_spans k n))
     ∙ path_digests F xs k n (omega arith) in
     let fit : path_fits w k n (length xs) (length c.args.spans.now) (length c.args.cells.now) (length out) ≡ leb (8 + w * length (path_spans k n)) (length out) =
     fits_at (in_tree k n) n (length xs) (length c.args.spans.now) (length c.args.cells.now) (8 + w * length (path_spans k n)) (length out) (in_tree_holds k n (omega arith) (omega arith)) top (omega arith) (omega arith) in
-    let a = c.write-payload.ensures in
+    let a = c.write_payload.ensures in
     record {
-      size = size_told out w c.push-path.new.spans.len (length (path_spans k n)) k n (length out) _ _ _ many same fit c.write-payload.result a.size;
-      bytes = bytes_told out w c.push-path.new.spans.len (length (path_spans k n)) k n (length out) _ _ _ many same fit c.write-payload.new.out a.bytes;
+      size = size_told out w c.push_path.new.spans.len (length (path_spans k n)) k n (length out) _ _ _ many same fit c.write_payload.result a.size;
+      bytes = bytes_told out w c.push_path.new.spans.len (length (path_spans k n)) k n (length out) _ _ _ many same fit c.write_payload.new.out a.bytes;
     }

@@ -19,13 +19,13 @@ returns g c =
     let out = c.args.out.now in
     let J : Bytes = flat_map (span_digest F xs) (reverse (held c.args.spans.now)) in
     let sized : 8 + c.size.result * c.len.result ≡ 8 + w * len = ap₂ (λ (x y : ℕ). 8 + x * y) c.size.ensures c.len.ensures in
-    let long = c.write-spans.ensures.long in
+    let long = c.write_spans.ensures.long in
     let room : 8 + w * len ≤ length out = omega (arith, c.if-out-size.false) in
     let yes : leb (8 + w * len) (length out) ≡ true = le-leb (8 + w * len) (length out) room in
     record {
       size = ap Some sized ∙ sym (ap (λ (t : Bool). wrote t (8 + w * len)) yes);
       bytes =
-          payload_written out J c.write-spans.new.out c.store-number.new.into c.store-number-2.new.into c.args.first c.args.second
-          c.store-number.ensures c.store-number-2.ensures c.write-spans.ensures.bytes (omega arith)
+          payload_written out J c.write_spans.new.out c.store_number.new.into c.store_number-2.new.into c.args.first c.args.second
+          c.store_number.ensures c.store_number-2.ensures c.write_spans.ensures.bytes (omega arith)
           ∙ sym (ap (λ (t : Bool). cond t (written 0 (little 4 c.args.first ++ (little 4 c.args.second ++ J)) out) out) yes);
     }

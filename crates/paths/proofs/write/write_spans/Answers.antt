@@ -17,8 +17,8 @@ pub loop-span-init : goal.loop-span-init
 loop-span-init g c =
     (refl, le_refl _, c.requires.within, ([], refl, add-zero _, written_none c.args.out.now c.args.at))
 
-pub returns-in-default-range-root : goal.returns-in-default-range-root
-returns-in-default-range-root g c =
+pub returns-in_default-range_root : goal.returns-in_default-range_root
+returns-in_default-range_root g c =
     let F = from_zeros g.C.Value.Words.width g.C.Compression.f in
     let xs = g.L.Leaves.items c.args.leaves.now in
     let l = c.loop-span in
@@ -29,7 +29,7 @@ returns-in-default-range-root g c =
     let room = c.requires.cells in
     let low = n.1 in
     let top = n.2 in
-    absurd (no_root g.C.Value.Words.bytes F xs s.from s.to (length l.cells) w.0 (omega arith) (omega arith) (omega arith) c.in-default-range-root.ensures)
+    absurd (no_root g.C.Value.Words.bytes F xs s.from s.to (length l.cells) w.0 (omega arith) (omega arith) (omega arith) c.in_default-range_root.ensures)
 
 pub loop-span-preserved : goal.loop-span-preserved
 loop-span-preserved g c =
@@ -53,9 +53,9 @@ loop-span-preserved g c =
     let low = n.1 in
     let top = n.2 in
     let sized = c.size-width.ensures in
-    let new : Bytes = b c.in-Some-range-root.digest in
-    let long : length new ≡ w = g.met.C.Value.Words.sized c.in-Some-range-root.digest in
-    let is : new ≡ span_digest F xs s = root_there b F xs s.from s.to (length l.cells) c.in-Some-range-root.digest t.0 (omega arith) (omega arith) (omega arith) c.in-Some-range-root.ensures in (
+    let new : Bytes = b c.in-Some-range_root.digest in
+    let long : length new ≡ w = g.met.C.Value.Words.sized c.in-Some-range_root.digest in
+    let is : new ≡ span_digest F xs s = root_there b F xs s.from s.to (length l.cells) c.in-Some-range_root.digest t.0 (omega arith) (omega arith) (omega arith) c.in-Some-range_root.ensures in (
       omega arith,
       omega arith,
       (n.0, n.1, n.2, t.2),
@@ -75,7 +75,7 @@ returns g c =
     let w : ℕ = g.C.Value.Words.width in
     let l = c.loop-span in
     let d = l.invariant.3 in
-    let t = false-ltb 0 l.spans.len c.in-default.ensures.some in
+    let t = false-ltb 0 l.spans.len c.in_default.ensures.some in
     let e : l.spans.len ≡ 0 = omega arith in
     let z : w * l.spans.len ≡ 0 = ap (λ (k : ℕ). w * k) e ∙ mul-zero w in
     let none = held_none l.spans e in

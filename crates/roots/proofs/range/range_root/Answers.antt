@@ -10,11 +10,11 @@ use Rattle.roots.proofs.Passing.{started, folded, ended, no_row}
 use Rattle.roots.proofs.Ranges.{is_leaf, no_leaf, range_more, ranged_root, root_is_met}
 use Rattle.roots.proofs.range.range_root.Goals as goal
 
-pub returns-in-err-leaf : goal.returns-in-err-leaf
-returns-in-err-leaf g c =
+pub returns-in_err-leaf : goal.returns-in_err-leaf
+returns-in_err-leaf g c =
     let n = c.count.ensures.value in
     let h : c.loop-i.i < length (g.L.Leaves.items c.args.leaves.now) = omega arith in
-    absurd (no_leaf g.C.Value.Words.bytes (g.L.Leaves.items c.args.leaves.now) c.loop-i.i h c.in-err-leaf.ensures)
+    absurd (no_leaf g.C.Value.Words.bytes (g.L.Leaves.items c.args.leaves.now) c.loop-i.i h c.in_err-leaf.ensures)
 
 pub settle-requires : goal.settle-requires
 settle-requires g c =
@@ -38,12 +38,12 @@ loop-i-preserved g c =
     let h : i < length xs = omega arith in (
       omega arith,
       subst (λ (ys : List (List ℕ)). Rows node b 1 (held c.settle.new.stack) ys)
-          (sym (range_more xs a i (b c.in-ok-leaf.leaf) (omega arith) h (is_leaf b xs i c.in-ok-leaf.leaf h c.in-ok-leaf.ensures)))
+          (sym (range_more xs a i (b c.in_ok-leaf.leaf) (omega arith) h (is_leaf b xs i c.in_ok-leaf.leaf h c.in_ok-leaf.ensures)))
           (c.in-Ok.ensures.rows (take (i - a) (drop a xs)) c.loop-i.invariant.1),
     )
 
-pub returns-in-err-root : goal.returns-in-err-root
-returns-in-err-root g c =
+pub returns-in_err-root : goal.returns-in_err-root
+returns-in_err-root g c =
     let b = g.C.Value.Words.bytes in
     let node = node_digest (from_zeros g.C.Value.Words.width g.C.Compression.f) in
     let xs = g.L.Leaves.items c.args.leaves.now in
@@ -51,7 +51,7 @@ returns-in-err-root g c =
     let i = c.loop-i.i in
     let n = c.count.ensures.value in
     let s = c.loop-i.stack in
-    let t = false-ltb 0 s.len c.in-err-root.ensures.some in
+    let t = false-ltb 0 s.len c.in_err-root.ensures.some in
     let e : s.len ≡ 0 = omega arith in
     let up : i ≤ c.args.b = c.loop-i.auto.i-end (omega arith) in
     let z = no_row node b (held s) (take (i - a) (drop a xs)) (held_none s e) c.loop-i.invariant.1 in
@@ -67,7 +67,7 @@ loop-below-init g c =
     let a = c.args.a in
     let up : c.loop-i.i ≤ c.args.b = c.loop-i.auto.i-end (omega arith) in
     let e : c.loop-i.i ≡ c.args.b = omega arith in
-    started node b (held c.loop-i.stack) (held c.pop.new.self) c.in-ok-root.field-0 (take (c.args.b - a) (drop a xs)) c.in-ok-root.ensures.used
+    started node b (held c.loop-i.stack) (held c.pop.new.self) c.in_ok-root.field-0 (take (c.args.b - a) (drop a xs)) c.in_ok-root.ensures.used
     (subst (λ (k : ℕ). Rows node b 1 (held c.loop-i.stack) (take (k - a) (drop a xs))) e c.loop-i.invariant.1)
 
 pub loop-below-preserved : goal.loop-below-preserved
@@ -85,7 +85,7 @@ returns g c =
     let xs = g.L.Leaves.items c.args.leaves.now in
     let s = c.loop-below.stack in
     let n = c.count.ensures.value in
-    let t = false-ltb 0 s.len c.in-default-pop.ensures.some in
+    let t = false-ltb 0 s.len c.in_default-pop.ensures.some in
     let e : s.len ≡ 0 = omega arith in
     let low : c.args.a < c.args.b = omega arith in
     let top : c.args.b ≤ length xs = omega arith in

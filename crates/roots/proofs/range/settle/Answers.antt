@@ -43,17 +43,17 @@ returns-then-below-top g c =
     let p = c.in-Some.ensures.places in
     let size = c.in-Some.ensures.size in
     let o = true-ltb 0 s.len c.in-Some.ensures.some in
-    let q = c.in-ok-push.ensures.places in
-    let z = c.in-ok-push.ensures.size in
+    let q = c.in_ok-push-in-Some.ensures.places in
+    let z = c.in_ok-push-in-Some.ensures.size in
     record {
       size = c.push-then-below-top-2.ensures.size ∙ z ∙ size ∙ k;
       rows = from_push _ _ c.push-then-below-top-2.result _ _ _ _ c.push-then-below-top-2.ensures.used c.push-then-below-top-2.ensures.left (omega arith)
           (λ e xs r. both node b (held s) (held c.pop.new.self) _ _ c.in-Some.below c.loop-stack.top (xs ++ b c.args.leaf ∷ []) c.if-below-top.true
-          c.in-Some.ensures.used c.in-ok-push.ensures.used e (c.loop-stack.invariant.2 xs r));
+          c.in-Some.ensures.used c.in_ok-push-in-Some.ensures.used e (c.loop-stack.invariant.2 xs r));
     }
 
-pub overflow-add-top : goal.overflow-add-top
-overflow-add-top g c =
+pub overflow_add-top : goal.overflow_add-top
+overflow_add-top g c =
     let b = g.C.Value.Words.bytes in
     let node = node_digest (from_zeros g.C.Value.Words.width g.C.Compression.f) in
     let w = c.requires.rows in
