@@ -1,6 +1,6 @@
 -- The tests of a record's numbers, by how many digests its numbers fix. Assumes nothing.
-use Rattle.std.proofs.Common.{◌≡◌, ℕ, ◌/◌, Bool, true, false, cond, ◌&&◌, eqb, ltb, leb, length, Some, None, Option, sym, refl, ap, ◌∙◌, arith, MatchOption}
-use Rattle.std.proofs.lemmas.Bool.{eq-eqb, ne_eqb, both_ways}
+use Rattle.std.proofs.Common.{◌≡◌, ℕ, ◌/◌, Bool, true, false, cond, ◌&&◌, eqb, ltb, leb, length, Some, None, Option, sym, refl, ap, ◌∙◌, arith}
+use Rattle.std.specs.Option.{option_eq}
 use Rattle.std.proofs.lemmas.Bool.Decides.{nat_tests}
 use Rattle.hash.specs.Collisions.{Bytes}
 use Rattle.hash.proofs.Padded.{length_cut}
@@ -10,18 +10,17 @@ use Rattle.tree.proofs.Lengths.{length_path}
 use Rattle.record.specs.Records.{proof, link, numbers_fit}
 use Rattle.record.specs.Views.{digests_in}
 
-decided : (t : Bool) (k m : ℕ) → (t ≡ true → k ≡ m) × (k ≡ m → t ≡ true) → t ≡ eqb m k
-decided true k m h = sym (eq-eqb m k (sym (h.0 refl)))
-decided false k m h = sym (ne_eqb m k (λ e. both_ways false refl (h.1 (sym e))))
+turned : (k m : ℕ) → eqb k m ≡ eqb m k
+turned k m = grind (arith, nat_tests)
 
 -- whether the count is there, and is m
 abbrev counted : Option ℕ → ℕ → Bool
 counted None m = false
 counted (Some k) m = eqb m k
 
-by_count : (o : Option ℕ) (m : ℕ) (t : Bool) → MatchOption o (t ≡ false) (λ k. (t ≡ true → k ≡ m) × (k ≡ m → t ≡ true)) → t ≡ counted o m
+by_count : (o : Option ℕ) (m : ℕ) (t : Bool) → t ≡ option_eq eqb o (Some m) → t ≡ counted o m
 by_count None m t h = h
-by_count (Some k) m t h = decided t k m h
+by_count (Some k) m t h = h ∙ turned k m
 
 two_tests : (a b : Bool) (k k' m : ℕ) → k ≡ k' →
     counted (cond (cond a b false) (Some k) None) m ≡ elim (a && b) as (λ _. Bool) [ false ↦ false | true ↦ eqb m k' ]
@@ -36,7 +35,7 @@ three_tests z true true false k m e = ap (λ (x : Bool). counted (cond (cond x f
 three_tests z true false d k m e = ap (λ (x : Bool). counted (cond (cond x false false) (Some k) None) m) e
 three_tests z false b d k m e = ap (λ (x : Bool). counted (cond (cond x (cond b d false) false) (Some k) None) m) e
 
-module _ (w : ℕ) (bs : Bytes) (o : Option ℕ) (m : ℕ) (t : Bool) (is : m ≡ length bs / w) (test : MatchOption o (t ≡ false) (λ k. (t ≡ true → k ≡ m) × (k ≡ m → t ≡ true))) where
+module _ (w : ℕ) (bs : Bytes) (o : Option ℕ) (m : ℕ) (t : Bool) (is : m ≡ length bs / w) (test : t ≡ option_eq eqb o (Some m)) where
   long : m ≡ length (digests_in w bs)
   long = is ∙ sym (length_cut w (length bs / w) bs)
 

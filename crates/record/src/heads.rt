@@ -1,15 +1,27 @@
 // The head of a log: how many leaves it has, and the root over them.
-ghost use Rattle.std.specs.Prelude.{◌≡◌, ◌<◌, ◌≤◌, MatchOption};
+ghost use Rattle.std.specs.Prelude.{◌≡◌, ◌<◌, ◌≤◌, MatchOption, ⊤};
 ghost use Rattle.tree.specs.Spans.{largest};
 
+use std::alloc::AllocError;
 use tree::spans::LARGEST;
 
-#[derive(Clone, Copy)]
 pub struct Head<D> {
     size: u32,
     root: D,
     ghost some: { 1 ≤ size },
     ghost most: { size ≤ largest },
+}
+
+impl<D: Copy> Copy for Head<D> {}
+
+impl<D: Copy> Clone for Head<D> {
+    ghost is_clone = { λ x y. y ≡ x };
+
+    ghost is_infallible = { λ _. ⊤ };
+
+    fn clone(&self) -> Result<Head<D>, AllocError> {
+        Ok(*self)
+    }
 }
 
 impl<D: Copy> Head<D> {

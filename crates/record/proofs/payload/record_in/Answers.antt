@@ -9,7 +9,7 @@ returns-in-Head g c =
     let w = g.D.Words.width in
     let p = c.args.payload.now in
     record {
-      says = head_in_is w c.number-at.result p c.number-at.ensures ∙ ap (λ (k : Kind). (row_of w k).1 p) (sym c.in-Head.is);
+      says = head_in_is w c.number_at.result p c.number_at.ensures ∙ ap (λ (k : Kind). (row_of w k).1 p) (sym c.in-Head.is);
       whole = tt;
     }
 
@@ -19,7 +19,7 @@ returns-in-Proof g c =
     let p = c.args.payload.now in
     record {
       says =
-          proof_in_is w c.number-at-in-Proof.result c.number-at-in-Proof-2.result p c.number-at-in-Proof.ensures c.number-at-in-Proof-2.ensures
+          proof_in_is w c.number_at-in-Proof.result c.number_at-in-Proof-2.result p c.number_at-in-Proof.ensures c.number_at-in-Proof-2.ensures
           ∙ ap (λ (k : Kind). (row_of w k).1 p) (sym c.in-Proof.is);
       whole = whole_rows w 20 p (sym (ap (λ (k : Kind). (row_of w k).0 (length p)) c.in-Proof.is) ∙ c.requires);
     }
@@ -30,7 +30,7 @@ returns-in-Link g c =
     let p = c.args.payload.now in
     record {
       says =
-          link_in_is w c.number-at-in-Link.result c.number-at-in-Link-2.result p c.number-at-in-Link.ensures c.number-at-in-Link-2.ensures
+          link_in_is w c.number_at-in-Link.result c.number_at-in-Link-2.result p c.number_at-in-Link.ensures c.number_at-in-Link-2.ensures
           ∙ ap (λ (k : Kind). (row_of w k).1 p) (sym c.in-Link.is);
       whole = whole_rows w 21 p (sym (ap (λ (k : Kind). (row_of w k).0 (length p)) c.in-Link.is) ∙ c.requires);
     }

@@ -6,15 +6,15 @@ use Rattle.cipher.proofs.Pieces.{stored_there}
 use Rattle.record.proofs.Writing.{room, no_room}
 use Rattle.record.proofs.write.put.Goals as goal
 
-pub returns-then-has-room : goal.returns-then-has-room
-returns-then-has-room c =
+pub returns-then-has_room : goal.returns-then-has_room
+returns-then-has_room c =
     let xs = c.args.into.now in
     let bs = c.args.bytes.now in
     let i = c.args.at in
-    let h = room i (length bs) xs c.has-room.result c.has-room.ensures c.if-has-room.true in
+    let h = room i (length bs) xs c.has_room.result c.has_room.ensures c.if-has_room.true in
     let k : i + length bs - i ≡ length bs = omega arith in
-    let a : put_mid i (i + length bs - i) xs c.copy-from-slice.new.self ≡ written i bs xs = search (rules, overwrites) in
+    let a : put_mid i (i + length bs - i) xs c.copy_from_slice.new.self ≡ written i bs xs = search (rules, overwrites) in
     a ∙ sym (stored_there i bs xs h)
 
-pub returns-else-has-room : goal.returns-else-has-room
-returns-else-has-room c = no_room c.args.at (length c.args.bytes.now) c.args.bytes.now c.args.into.now c.has-room.result c.has-room.ensures c.if-has-room.false refl
+pub returns-else-has_room : goal.returns-else-has_room
+returns-else-has_room c = no_room c.args.at (length c.args.bytes.now) c.args.bytes.now c.args.into.now c.has_room.result c.has_room.ensures c.if-has_room.false refl

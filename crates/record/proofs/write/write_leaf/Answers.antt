@@ -3,19 +3,19 @@ use Rattle.record.specs.Records.{spelled, leaf}
 use Rattle.record.proofs.Writing.{room, no_room, framed_put}
 use Rattle.record.proofs.write.write_leaf.Goals as goal
 
-pub returns-then-has-room : goal.returns-then-has-room
-returns-then-has-room g c =
+pub returns-then-has_room : goal.returns-then-has_room
+returns-then-has_room g c =
     let xs = c.args.into.now in
     let i = c.args.at in
     let p = g.D.Words.bytes c.args.digest in
     let l = g.met.D.Words.sized c.args.digest in
-    let h = room i c.leaf-len.result xs c.has-room.result c.has-room.ensures c.if-has-room.true in
-    framed_put 1 c.size.result i p xs c.write-header.new.into c.store.new.into c.write-header.ensures c.store.ensures
-    (omega (arith, c.size.ensures)) (omega (arith, c.leaf-len.ensures.value))
+    let h = room i c.leaf_len.result xs c.has_room.result c.has_room.ensures c.if-has_room.true in
+    framed_put 1 c.size.result i p xs c.write_header.new.into c.store.new.into c.write_header.ensures c.store.ensures
+    (omega (arith, c.size.ensures)) (omega (arith, c.leaf_len.ensures.value))
 
-pub returns-else-has-room : goal.returns-else-has-room
-returns-else-has-room g c =
+pub returns-else-has_room : goal.returns-else-has_room
+returns-else-has_room g c =
     let p = g.D.Words.bytes c.args.digest in
     let l = g.met.D.Words.sized c.args.digest in
-    no_room c.args.at c.leaf-len.result (spelled (leaf p)) c.args.into.now c.has-room.result c.has-room.ensures c.if-has-room.false
-    (c.leaf-len.ensures.spells p l)
+    no_room c.args.at c.leaf_len.result (spelled (leaf p)) c.args.into.now c.has_room.result c.has_room.ensures c.if-has_room.false
+    (c.leaf_len.ensures.spells p l)
