@@ -1,11 +1,11 @@
 -- Two messages of one digest: the last inputs of the compression that differ collide. Assumes nothing.
-use Rattle.std.proofs.Common.{◌≡◌, ℕ, zero, suc, ◌+◌, ◌-◌, ◌*◌, ◌/◌, ◌%◌, ◌^◌, ◌<◌, ◌≤◌, List, [], ◌∷◌, ◌++◌, reverse, length, take, drop, replicate, Some, sym, refl, ap, ◌∙◌, ap₂, append_assoc, arith, length-append, length-drop, take-append-drop, MatchOption}
+use Rattle.std.proofs.Common.{◌≡◌, ℕ, zero, suc, ◌+◌, ◌*◌, ◌/◌, ◌^◌, ◌<◌, ◌≤◌, List, [], ◌∷◌, ◌++◌, reverse, length, take, drop, replicate, Some, sym, refl, ap, ◌∙◌, ap₂, append_assoc, arith, length-append, length-drop, take-append-drop, MatchOption}
 use mathlib.Core.List.{reverse-append, reverse-reverse, head-eq_of_cons-eq}
 use lib.ListN.{length-replicate}
 use Rattle.std.proofs.lemmas.List.{take_all, nil_from_length, take-append-le, drop-append-le, length-reverse, length-take-le}
 use Rattle.std.specs.List.{flat_map, slice_get}
-use Rattle.hash.specs.Hash.{Hashing, chain, gap, padded, cut, blocks, hash_of}
-use Rattle.hash.specs.Collisions.{Bytes, Input, same_input, inputs, inputs_apart, parting, Collides}
+use Rattle.hash.specs.Hash.{Hashing, gap, padded, cut, blocks, hash_of}
+use Rattle.hash.specs.Collisions.{Bytes, same_input, inputs, inputs_apart, parting, Collides}
 use Rattle.cipher.specs.Bytes.{little}
 use Rattle.cipher.proofs.Littles.{length_little, little_apart}
 use Rattle.cipher.proofs.Pieces.{fronts, backs}

@@ -1,5 +1,5 @@
 -- The blocks of a padded message, one by one. Assumes nothing.
-use Rattle.std.proofs.Common.{◌≡◌, ℕ, zero, suc, ◌+◌, ◌-◌, ◌*◌, ◌/◌, ◌<◌, ◌≤◌, List, [], ◌∷◌, ◌++◌, length, take, drop, set, replicate, Some, None, Option, sym, refl, ap, ◌∙◌, append_assoc, mul-suc, arith, length-append, length-drop}
+use Rattle.std.proofs.Common.{◌≡◌, ℕ, zero, suc, ◌+◌, ◌-◌, ◌*◌, ◌/◌, ◌<◌, ◌≤◌, List, [], ◌∷◌, ◌++◌, length, take, drop, set, replicate, Some, None, sym, refl, ap, ◌∙◌, append_assoc, mul-suc, arith, length-append, length-drop}
 use lib.ListN.{length-replicate}
 use Rattle.std.proofs.lemmas.List.{take_at, drop_at, drop-drop, take_all, length-take-le, take-append-le, drop-append-le, replicate-append-replicate, set_at}
 use Rattle.std.specs.List.{slice_get}

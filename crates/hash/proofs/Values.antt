@@ -3,7 +3,7 @@ use Rattle.std.proofs.Common.{◌≡◌, ℕ, zero, suc, ◌+◌, ◌≤◌, Lis
 use Rattle.std.proofs.lemmas.List.{take_all}
 use Rattle.std.specs.List.{slice_get}
 use Rattle.hash.specs.Hash.{Hashing, chain, blocks, value_before}
-use Rattle.hash.specs.Collisions.{Bytes, Input, inputs}
+use Rattle.hash.specs.Collisions.{Bytes, inputs}
 use Rattle.hash.proofs.Padded.{nth_gone}
 
 -- one element more off the front

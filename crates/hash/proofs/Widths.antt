@@ -2,7 +2,7 @@
 use Rattle.std.proofs.Common.{◌≡◌, ℕ, zero, suc, ◌*◌, ◌/◌, ◌≤◌, length, take, drop, ◌∙◌, arith, length-drop}
 use lib.ListN.{length-replicate}
 use Rattle.std.proofs.lemmas.List.{length-take-le}
-use Rattle.hash.specs.Hash.{Hashing, chain, padded, cut, blocks, hash_of, from_zeros}
+use Rattle.hash.specs.Hash.{Hashing, chain, padded, cut, hash_of, from_zeros}
 use Rattle.hash.specs.Collisions.{Bytes}
 use Rattle.hash.specs.Widths.{Outputs, Sized}
 use Rattle.hash.proofs.Padded.{length_padded}

@@ -5,7 +5,7 @@ use Rattle.hash.specs.Collisions.{Bytes}
 use Rattle.hash.specs.Hash.{Hashing, cut}
 use Rattle.tree.specs.declared.spans.Span.{Span}
 use Rattle.tree.specs.Digests.{node_message, node_digest}
-use Rattle.tree.specs.Tree.{Turn, low, high, climb}
+use Rattle.tree.specs.Tree.{Turn, low, high}
 use Rattle.paths.specs.declared.apart.Apart.{Apart}
 use Rattle.paths.specs.declared.apart.Apart.TheVariants.{Nodes}
 use Rattle.paths.specs.declared.apart.Node.{Node}

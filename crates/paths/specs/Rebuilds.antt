@@ -1,5 +1,5 @@
 -- Roots rebuilt from the bytes of the digests of a path or a link. Assumes nothing.
-use Rattle.std.specs.Prelude.{ℕ, ◌*◌, Bool, false, cond, List, length, Some, None, Option, ◌==◌, nat_le}
+use Rattle.std.specs.Prelude.{ℕ, ◌*◌, Bool, false, cond, length, Some, None, Option, ◌==◌, nat_le}
 use Rattle.hash.specs.Hash.{Hashing, cut}
 use Rattle.hash.specs.Collisions.{Bytes}
 use Rattle.tree.specs.Digests.{rebuilt, rebuilt_old, rebuilt_new}

@@ -1,5 +1,5 @@
 -- The six records: how each is spelled in bytes, and how one is read. Assumes nothing.
-use Rattle.std.specs.Prelude.{◌≡◌, ℕ, ◌+◌, ◌-◌, ◌*◌, ◌/◌, ◌%◌, ◌≤◌, Bool, true, false, cond, ◌&&◌, leb, List, [], ◌∷◌, ◌++◌, length, take, drop, Some, None, Ok, Option, ◌==◌, nat_eq, nat_le, nat_lt}
+use Rattle.std.specs.Prelude.{◌≡◌, ℕ, ◌+◌, ◌-◌, ◌*◌, ◌/◌, ◌%◌, ◌≤◌, Bool, true, false, cond, ◌&&◌, leb, List, ◌++◌, length, take, drop, Some, None, Ok, Option, ◌==◌, nat_eq, nat_le, nat_lt}
 use Rattle.std.specs.List.{flat_map}
 use Rattle.cipher.specs.Bytes.{little, number}
 use Rattle.hash.specs.Hash.{cut}

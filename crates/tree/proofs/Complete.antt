@@ -1,9 +1,9 @@
 -- A path made from the leaves rebuilds the root over them. Assumes nothing.
-use Rattle.std.proofs.Common.{◌≡◌, ℕ, zero, suc, ◌+◌, ◌-◌, ◌<◌, ◌≤◌, Bool, true, false, cond, ltb, List, [], ◌∷◌, ◌++◌, reverse, length, get_or, drop, sym, refl, ap, ◌∙◌, ap₂, arith}
+use Rattle.std.proofs.Common.{◌≡◌, ℕ, ◌+◌, ◌-◌, ◌<◌, Bool, true, false, cond, ltb, List, [], ◌∷◌, ◌++◌, reverse, get_or, drop, sym, refl, ap, ◌∙◌, ap₂, arith}
 use mathlib.Core.List.{reverse-append}
 use Rattle.std.proofs.lemmas.List.{drop-drop, get_or-drop}
 use Rattle.std.proofs.lemmas.Bool.{ltb-true, ltb-false}
-use Rattle.tree.specs.Tree.{Shape, tip, fork, size, top, path, Turn, low, high, turns, climb}
+use Rattle.tree.specs.Tree.{Shape, tip, fork, size, top, path, low, high, turns, climb}
 
 module _ {D : Type 0} (node : D → D → D) (none : D) (xs : List D) where
   abbrev part : ℕ → Shape → D

@@ -1,7 +1,7 @@
 -- How long paths and links are: at most h digests below 2 ^ h leaves, and one more for a link. Assumes nothing.
-use Rattle.std.proofs.Common.{◌≡◌, ℕ, zero, suc, ◌+◌, ◌-◌, ◌*◌, ◌^◌, ◌<◌, ◌≤◌, Bool, true, false, cond, eqb, ltb, leb, List, [], ◌∷◌, length, sym, refl, ap, ◌∙◌, subst, ap₂, ⊎_elim, le_refl, arith}
+use Rattle.std.proofs.Common.{◌≡◌, ℕ, zero, suc, ◌+◌, ◌-◌, ◌^◌, ◌≤◌, Bool, true, false, cond, eqb, ltb, leb, List, [], ◌∷◌, length, sym, subst, ⊎_elim, le_refl, arith}
 use Rattle.std.proofs.lemmas.Bool.{cases_lt}
-use Rattle.tree.specs.Tree.{Shape, tip, fork, size, shape, shape_of, Turn, low, high, turns}
+use Rattle.tree.specs.Tree.{Shape, size, shape, shape_of, Turn, low, high, turns}
 use Rattle.tree.specs.Links.{sub, link_turns, kept}
 use Rattle.tree.proofs.Shapes.{shape_low, shape_high, shape_is}
 use Rattle.tree.proofs.Linking.{length_link}

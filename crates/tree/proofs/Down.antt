@@ -1,9 +1,9 @@
 -- The way down by heights, as code goes it: between from and to, split at from + 2 ^ h. Assumes nothing.
-use Rattle.std.proofs.Common.{◌≡◌, ℕ, zero, suc, ◌+◌, ◌-◌, ◌*◌, ◌^◌, ◌<◌, ◌≤◌, Bool, true, false, cond, eqb, ltb, leb, List, [], ◌∷◌, ◌++◌, reverse, length, sym, refl, ap, ◌∙◌, subst, ap₂, le_refl, arith, pow_pos}
+use Rattle.std.proofs.Common.{◌≡◌, ℕ, suc, ◌+◌, ◌-◌, ◌*◌, ◌^◌, ◌<◌, ◌≤◌, Bool, true, false, cond, ltb, leb, List, [], ◌∷◌, ◌++◌, reverse, sym, refl, ap, ◌∙◌, ap₂, le_refl, arith, pow_pos}
 use mathlib.Core.List.{reverse-append}
 use Rattle.std.proofs.lemmas.Bool.{lt-ltb, le-ltb, le-leb, lt-leb, eq-eqb, ne_eqb}
-use Rattle.tree.specs.Tree.{Shape, tip, fork, size, shape, shape_of, path, turns, Turn, low, high}
-use Rattle.tree.specs.Links.{sub, link_turns, kept}
+use Rattle.tree.specs.Tree.{Shape, tip, fork, size, shape, shape_of, path, Turn, low, high}
+use Rattle.tree.specs.Links.{sub, link_turns}
 use Rattle.tree.proofs.Shapes.{shape_low, shape_high, size_shape, shape_is}
 
 -- a part of the tree by its first leaf and the one after its last

@@ -1,5 +1,5 @@
 -- A path has a digest for each turn. Assumes nothing.
-use Rattle.std.proofs.Common.{◌≡◌, ℕ, suc, ◌+◌, ◌-◌, Bool, true, false, cond, ltb, List, [], ◌∷◌, ◌++◌, length, refl, ap, ◌∙◌}
+use Rattle.std.proofs.Common.{◌≡◌, ℕ, suc, ◌+◌, ◌-◌, Bool, true, false, cond, ltb, [], ◌∷◌, ◌++◌, length, refl, ap, ◌∙◌}
 use Rattle.tree.specs.Tree.{Shape, tip, fork, size, path, low, high, turns}
 use Rattle.tree.proofs.Linking.{length_push}
 

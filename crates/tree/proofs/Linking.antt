@@ -1,9 +1,9 @@
 -- How a link is put together, and what it rebuilds. Assumes nothing.
-use Rattle.std.proofs.Common.{◌≡◌, ℕ, zero, suc, ◌+◌, ◌-◌, ◌*◌, ◌^◌, ◌<◌, ◌≤◌, Bool, true, false, cond, ◌&&◌, eqb, leb, List, [], ◌∷◌, ◌++◌, reverse, length, drop, sym, refl, ap, ◌∙◌, ap₂, ⊎_elim, append_assoc, le_refl, le_of_lt, arith, length-append, pow_pos}
+use Rattle.std.proofs.Common.{◌≡◌, ℕ, zero, suc, ◌+◌, ◌-◌, ◌^◌, ◌<◌, ◌≤◌, Bool, true, false, cond, ◌&&◌, eqb, leb, List, [], ◌∷◌, ◌++◌, reverse, length, drop, sym, refl, ap, ◌∙◌, ap₂, ⊎_elim, append_assoc, le_refl, le_of_lt, arith, length-append, pow_pos}
 use mathlib.Core.List.{reverse-append}
 use Rattle.std.proofs.lemmas.List.{drop-drop}
 use Rattle.std.proofs.lemmas.Bool.{both_ways, eq-eqb, ne_eqb, le-leb, lt-leb, cases_lt, cases_eq}
-use Rattle.tree.specs.Tree.{Shape, tip, fork, size, shape, shape_of, top, Turn, low, high, climb}
+use Rattle.tree.specs.Tree.{Shape, tip, fork, size, shape, shape_of, top, low, high, climb}
 use Rattle.tree.specs.Links.{sub, link_turns, kept, base, above, climb_old}
 use Rattle.tree.proofs.Shapes.{shape_low, shape_high, size_shape, shape_is, below_pow}
 

@@ -1,5 +1,5 @@
 -- The laws of the tree, put together. Assumes nothing.
-use Rattle.std.proofs.Common.{◌≡◌, ℕ, ◌<◌, ◌≤◌, true, List, [], reverse, length, get_or, sym, ap, ◌∙◌, ap₂, zero-add, arith}
+use Rattle.std.proofs.Common.{◌≡◌, ℕ, ◌<◌, ◌≤◌, true, List, [], reverse, get_or, sym, ap, ◌∙◌, ap₂, zero-add, arith}
 use Rattle.hash.specs.Hash.{Hashing}
 use Rattle.hash.specs.Collisions.{Bytes}
 use Rattle.tree.specs.Tree.{shape_of, top, part_by, turns, climb}

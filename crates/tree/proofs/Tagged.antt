@@ -1,5 +1,5 @@
 -- A tag and what follows it, written at the front of a buffer. Assumes nothing.
-use Rattle.std.proofs.Common.{◌≡◌, ℕ, suc, ◌+◌, ◌<◌, List, [], ◌∷◌, ◌++◌, length, take, drop, set, sym, refl, ap, ◌∙◌, arith}
+use Rattle.std.proofs.Common.{◌≡◌, ℕ, suc, ◌+◌, ◌<◌, List, [], ◌∷◌, ◌++◌, length, drop, set, sym, ap, ◌∙◌, arith}
 use Rattle.cipher.specs.Bytes.{written}
 
 pub tag_written : (b : ℕ) (m xs : List ℕ) → 0 < length xs → written 1 m (set xs 0 b) ≡ written 0 (b ∷ m) xs

@@ -1,4 +1,4 @@
-use Rattle.std.proofs.Common.{◌≡◌, ℕ, ◌+◌, ◌<◌, List, length, drop, sym, ap, ◌∙◌, arith}
+use Rattle.std.proofs.Common.{ℕ, ◌+◌, List, drop, sym, ap, ◌∙◌, arith}
 use Rattle.cipher.specs.Blocks.{block_bytes}
 use Rattle.hash.specs.Hash.{blocks, chain, from_zeros}
 use Rattle.hash.proofs.Padded.{nth_there, nth_gone, length_blocks}

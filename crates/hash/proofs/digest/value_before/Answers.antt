@@ -1,4 +1,4 @@
-use Rattle.std.proofs.Common.{◌≡◌, ℕ, List, sym, ap, ◌∙◌, arith}
+use Rattle.std.proofs.Common.{ℕ, List, sym, ap, ◌∙◌, arith}
 use Rattle.cipher.specs.Blocks.{block_bytes}
 use Rattle.hash.specs.Hash.{blocks, from_zeros}
 use Rattle.hash.proofs.Values.{past, value_more, value_past}

@@ -1,6 +1,6 @@
-use Rattle.std.proofs.Common.{◌≡◌, ℕ, ◌+◌, ◌*◌, ◌/◌, ◌≤◌, List, ◌++◌, length, take, drop, Some, None, Option, sym, ap, ◌∙◌, arith}
+use Rattle.std.proofs.Common.{◌≡◌, ℕ, ◌+◌, ◌*◌, ◌/◌, ◌≤◌, List, ◌++◌, length, Some, sym, ap, ◌∙◌, arith}
 use Rattle.std.proofs.lemmas.List.{take_all}
-use Rattle.cipher.specs.Bytes.{little, piece}
+use Rattle.cipher.specs.Bytes.{little}
 use Rattle.cipher.proofs.Littles.{little_zero}
 use Rattle.cipher.proofs.Pieces.{piece_there}
 use Rattle.hash.specs.Hash.{padded}

@@ -1,4 +1,4 @@
-use Rattle.std.proofs.Common.{◌≡◌, ℕ, ◌+◌, leb, map, reverse, drop, ap, ◌∙◌, arith}
+use Rattle.std.proofs.Common.{ℕ, ◌+◌, leb, map, reverse, drop, ap, ◌∙◌, arith}
 use Rattle.stack.specs.Held.{held}
 use Rattle.stack.proofs.Lengths.{length_held, one_off}
 use Rattle.hash.specs.Hash.{cut, from_zeros}

@@ -1,4 +1,4 @@
-use Rattle.std.proofs.Common.{◌≡◌, ℕ, ◌+◌, ◌++◌, length, subst, arith, length-append}
+use Rattle.std.proofs.Common.{◌≡◌, ◌+◌, ◌++◌, length, subst, arith, length-append}
 use Rattle.cipher.specs.Bytes.{little, stored}
 use Rattle.cipher.proofs.Littles.{length_little}
 use Rattle.hash.specs.Collisions.{Bytes}

@@ -1,4 +1,4 @@
-use Rattle.std.proofs.Common.{◌≡◌, ℕ, ◌+◌, ◌-◌, List, ◌∷◌, length, take, ap, ◌∙◌, arith}
+use Rattle.std.proofs.Common.{ℕ, ◌+◌, ◌-◌, List, ◌∷◌, length, take, ap, ◌∙◌, arith}
 use Rattle.cipher.proofs.Pieces.{stored_there, written_front}
 use Rattle.hash.specs.Hash.{hash_of, from_zeros}
 use Rattle.tree.proofs.digests.leaf_digest.Goals as goal

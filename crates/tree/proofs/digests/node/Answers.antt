@@ -1,6 +1,6 @@
-use Rattle.std.proofs.Common.{◌≡◌, ℕ, ◌+◌, ◌-◌, ◌≤◌, List, [], ◌∷◌, ◌++◌, length, take, drop, replicate, sym, ap, ◌∙◌, arith, length-append}
+use Rattle.std.proofs.Common.{◌≡◌, ℕ, ◌+◌, ◌-◌, ◌≤◌, List, ◌∷◌, ◌++◌, length, take, drop, replicate, ap, ◌∙◌, arith, length-append}
 use Rattle.std.proofs.lemmas.List.{take_at}
-use Rattle.cipher.specs.Bytes.{written, stored}
+use Rattle.cipher.specs.Bytes.{written}
 use Rattle.cipher.proofs.Pieces.{stored_there, written_written}
 use Rattle.hash.specs.Hash.{hash_of, from_zeros}
 use Rattle.tree.proofs.digests.node.Goals as goal

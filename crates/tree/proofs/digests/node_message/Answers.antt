@@ -1,4 +1,4 @@
-use Rattle.std.proofs.Common.{◌≡◌, ℕ, ◌+◌, List, ◌∷◌, ◌++◌, length, set, sym, refl, ap, ◌∙◌, arith, length-append, length-set}
+use Rattle.std.proofs.Common.{◌≡◌, ℕ, ◌+◌, List, ◌∷◌, ◌++◌, length, set, sym, ap, ◌∙◌, arith, length-append, length-set}
 use Rattle.cipher.specs.Bytes.{written}
 use Rattle.cipher.proofs.Pieces.{stored_there, stored_short, written_written}
 use Rattle.tree.proofs.Tagged.{tag_written}

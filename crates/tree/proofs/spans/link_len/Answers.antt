@@ -1,12 +1,10 @@
-use Rattle.std.proofs.Common.{◌≡◌, ℕ, suc, ◌+◌, ◌-◌, ◌*◌, ◌^◌, ◌<◌, ◌≤◌, Bool, true, false, cond, eqb, List, [], ◌∷◌, ◌++◌, reverse, length, take, sym, refl, ap, ◌∙◌, subst, append-nil, zero-add, arith, pow_pos}
+use Rattle.std.proofs.Common.{◌≡◌, ℕ, suc, ◌+◌, ◌-◌, ◌^◌, ◌<◌, ◌≤◌, Bool, true, false, cond, eqb, List, [], ◌∷◌, ◌++◌, length, sym, ap, ◌∙◌, zero-add, arith, pow_pos}
 use Rattle.std.proofs.lemmas.Bool.{eq-eqb, ne_eqb}
 use Rattle.std.proofs.lemmas.List.{length_push}
-use Rattle.tree.specs.Tree.{Turn, low, high}
-use Rattle.tree.specs.Links.{kept}
-use Rattle.tree.proofs.Down.{way, way_start, way_end, way_skip, way_left, way_right, walk, walk_start, walk_end, walk_skip, walk_left, walk_right, legs, legs_start, legs_end, legs_skip, legs_left, legs_right}
+use Rattle.tree.proofs.Down.{walk, walk_start, walk_end, walk_skip, walk_left, walk_right}
 use Rattle.tree.specs.declared.spans.Span.{Span}
-use Rattle.tree.specs.Spans.{between, path_spans, link_spans}
-use Rattle.tree.proofs.Descent.{pow_up, pow_less, never, path_counted, link_counted}
+use Rattle.tree.specs.Spans.{between}
+use Rattle.tree.proofs.Descent.{pow_up, pow_less, link_counted}
 use Rattle.tree.proofs.spans.link_len.Goals as goal
 
 pub loop-to-init : goal.loop-to-init

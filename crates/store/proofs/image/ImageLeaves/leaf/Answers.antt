@@ -14,7 +14,7 @@ returns g c =
     let bs = t.bytes.now in
     let fits = record_fits w i bs (omega (arith, kept_places t.count (places_in w bs))) in
     c.load.ensures
-    ∙ ap (λ (at : ℕ). piece (at + 4) w bs) c.record-at.ensures
+    ∙ ap (λ (at : ℕ). piece (at + 4) w bs) c.record_at.ensures
     ∙ piece_there (record_at w i + 4) w bs (omega (arith, fits))
     ∙ sym (leaf_at w t.count bs i (omega arith))
 

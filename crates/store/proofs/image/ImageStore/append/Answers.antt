@@ -26,7 +26,7 @@ returns-then-at-most g c =
       space = full_space n p k e h;
       bytes = full_same n p k e h (written (record_at w (kept_of n p)) (spelled (leaf d)) bs) bs;
       used = full_same n p k e h (used ++ spelled (leaf d)) used;
-      lent = refl {a = t.bytes.name};
+      lent = refl {a = t.bytes.ghost_name};
     }
 
 pub returns : goal.returns
@@ -40,15 +40,15 @@ returns g c =
     let k = c.kept-at.result in
     let e = c.kept-at.ensures in
     let h : k < most_of (places_in w bs) = omega arith in
-    let i = c.record-at.result in
-    let j = c.record-at.ensures in
-    let new = c.write-leaf.new.into in
-    let f = c.write-leaf.ensures in
+    let i = c.record_at.result in
+    let j = c.record_at.ensures in
+    let new = c.write_leaf.new.into in
+    let f = c.write_leaf.ensures in
     record {
       answer = room_answer n (places_in w bs) k e h (length (leaves_in w n bs)) (length_leaves w n bs);
       items = leaves_after w n bs k e h d l i j new f;
       space = places_after w n bs k e h d l i j new f;
       bytes = bytes_after_are w n bs k e h d l i j new f;
       used = records_after w n bs k e h d l i j new f;
-      lent = refl {a = t.bytes.name};
+      lent = refl {a = t.bytes.ghost_name};
     }

@@ -19,7 +19,7 @@ returns-then-at-most g c =
       items = full_same n (length cells) k e h (items ++ spell c.args.digest ∷ []) items;
       space = full_space n (length cells) k e h;
       cells = full_same n (length cells) k e h (set cells (kept_of n (length cells)) c.args.digest) cells;
-      lent = refl {a = c.args.self.now.cells.name};
+      lent = refl {a = c.args.self.now.cells.ghost_name};
     }
 
 pub returns : goal.returns
@@ -37,5 +37,5 @@ returns g c =
       cells =
           ap (λ (m : ℕ). set cells m c.args.digest) e
           ∙ room_other n (length cells) k e h (set cells (kept_of n (length cells)) c.args.digest) cells;
-      lent = refl {a = c.args.self.now.cells.name};
+      lent = refl {a = c.args.self.now.cells.ghost_name};
     }
