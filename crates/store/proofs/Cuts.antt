@@ -1,6 +1,6 @@
 -- Lists that are cut into pieces of one length, and a piece written behind others. Assumes nothing.
-use Rattle.std.proofs.Common.{◌≡◌, ℕ, zero, suc, ◌+◌, ◌*◌, ◌≤◌, List, [], ◌∷◌, ◌++◌, map, length, take, drop, sym, refl, ap, ◌∙◌, ap₂, mul-suc, arith, length-append, length-drop}
-use Rattle.std.proofs.lemmas.List.{nil_from_length, take_at, take-take, take-append-le, drop-append-le, drop-take, drop-drop, length-take-le}
+use Rattle.std.proofs.Common.{◌≡◌, ℕ, zero, suc, ◌+◌, ◌*◌, ◌≤◌, List, [], ◌∷◌, ◌++◌, map, length, take, drop, refl, ap, ◌∙◌, ap₂, mul-suc, arith, length-drop}
+use Rattle.std.proofs.lemmas.List.{nil_from_length, take_at, take-take, take-append-le, drop-append-le, drop-take, length-take-le}
 use Rattle.std.specs.Option.{option_map}
 use Rattle.std.specs.List.{slice_get}
 use Rattle.cipher.specs.Bytes.{written}

@@ -1,5 +1,5 @@
 -- The leaf records of an image, one by one and after a write. Assumes nothing.
-use Rattle.std.proofs.Common.{◌≡◌, ℕ, zero, suc, ◌+◌, ◌-◌, ◌/◌, ◌%◌, ◌<◌, ◌≤◌, cond, ltb, [], ◌∷◌, ◌++◌, map, length, take, drop, Some, None, sym, refl, ap, ◌∙◌, ap₂, append_assoc, mul-le-mul_left, mul-suc, add-one, arith, length-append, length-drop}
+use Rattle.std.proofs.Common.{◌≡◌, ℕ, zero, suc, ◌+◌, ◌/◌, ◌<◌, ◌≤◌, cond, ltb, [], ◌∷◌, ◌++◌, map, length, take, drop, Some, None, sym, refl, ap, ◌∙◌, ap₂, append_assoc, mul-le-mul_left, mul-suc, add-one, arith, length-append, length-drop}
 use native.Mathlib.Nat.{mul-div-le}
 use lib.ListN.{length-map}
 use Rattle.std.proofs.lemmas.List.{take_at, drop-take, drop-drop, length-take-le, map_push}

@@ -61,7 +61,9 @@ fn an_image_with_two_records(rt: HostRuntime) {
     let mut bytes = [7; 41];
     let mut image = Image::<Block>::new(&mut bytes);
     assert_eq!(rt; image.append(ONE), Ok(0));
-    assert!(rt; image.used() == [16, 0, 1, 0, 2, 1, 0, 0, 0, 0, 0, 0, 0, 3, 0, 0, 0, 0, 0, 0]);
+    assert!(rt;
+        image.used() == [16, 0, 1, 0, 2, 1, 0, 0, 0, 0, 0, 0, 0, 3, 0, 0, 0, 0, 0, 0].as_slice()
+    );
     assert_eq!(rt; image.append(TWO), Ok(1));
     assert_eq!(rt; image.append(ONE), Err(Refusal::StoreFull));
     assert_eq!(rt; image.used().len(), 40);
