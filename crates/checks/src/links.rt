@@ -8,9 +8,9 @@ use crate::accept::{joins, linked, same_numbers};
 use crate::laws::links_pass;
 use cipher::words::Words;
 use hash::compress::Compression;
-use release_log::buffers::enough;
 use record::single::{read_head, read_link};
 use refusal::Refusal;
+use release_log::buffers::enough;
 use tree::spans::Span;
 
 // That a log of an old head grew to a new one. A link that a log wrote passes between its heads.

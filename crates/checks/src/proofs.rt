@@ -8,9 +8,9 @@ use crate::accept::{proven, same_numbers};
 use crate::laws::proofs_pass;
 use cipher::words::Words;
 use hash::compress::Compression;
-use release_log::buffers::enough;
 use record::single::{read_head, read_proof};
 use refusal::Refusal;
+use release_log::buffers::enough;
 use tree::digests::leaf;
 use tree::spans::Span;
 

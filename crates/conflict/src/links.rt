@@ -17,11 +17,11 @@ use crate::write::write_pair;
 use checks::accept::{joins, linked, same_numbers};
 use cipher::words::Words;
 use hash::compress::Compression;
-use release_log::buffers::enough;
 use record::heads::Head;
 use record::records::Link;
 use record::single::{read_head, read_link};
 use refusal::Refusal;
+use release_log::buffers::enough;
 use tree::spans::Span;
 
 // Writes the collision behind two old heads of one size with links to one new head at the front of the output, and says how long it

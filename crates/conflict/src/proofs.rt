@@ -17,10 +17,10 @@ use crate::write::write_pair;
 use checks::accept::{proven, same_numbers};
 use cipher::words::Words;
 use hash::compress::Compression;
-use release_log::buffers::enough;
 use record::records::Proof;
 use record::single::{read_head, read_proof};
 use refusal::Refusal;
+use release_log::buffers::enough;
 use tree::digests::leaf;
 use tree::spans::Span;
 

@@ -5,11 +5,11 @@ ghost use Rattle.record.specs.Records.{collision, spelled};
 ghost use Rattle.record.specs.Views.{input_of};
 
 use cipher::words::Words;
-use release_log::buffers::fits;
 use record::collisions::Collision;
 use record::sizes::collision_len;
 use record::write::write_collision;
 use refusal::Refusal;
+use release_log::buffers::fits;
 
 // Writes the record, if there is room for all of it, and says how long it is.
 pub fn write_pair<D: Words>(pair: Collision<D>, out: &mut [u8]) -> Result<usize, Refusal>

@@ -14,12 +14,12 @@ returns g c =
     let w : ℕ = g.C.Value.Words.width in
     let F = from_zeros w g.C.Compression.f in
     let cells : ℕ = length c.args.spans.now in
-    let l = c.in-ok-link.link in
-    let some = must_last (leb 21 cells) TooFewCells (sym c.in-ok-enough.ensures) in
-    let enough : 21 ≤ cells = leb_from 21 cells TooFewCells c.in-ok-enough.ensures in
-    let read = sym c.in-ok-link.ensures.answer in
+    let l = c.in_ok-link.link in
+    let some = must_last (leb 21 cells) TooFewCells (sym c.in_ok-enough.ensures) in
+    let enough : 21 ≤ cells = leb_from 21 cells TooFewCells c.in_ok-enough.ensures in
+    let read = sym c.in_ok-link.ensures.answer in
     c.linked.ensures
     ∙ ap (λ (t : Bool). must t (WrongRoot 3 0))
-    (link_roots_are F cells enough l.old l.new l.digests.now (link_read w 3 c.args.link.now (link_of w l) read).0 c.in-ok-link.ensures.whole
-    (g.C.Value.Words.bytes c.in-ok-old.old.root) (g.C.Value.Words.bytes c.in-ok-new.new.root))
-    ∙ sym (through TooFewCells _ some ∙ bound _ (sym c.in-ok-old.ensures) ∙ bound _ (sym c.in-ok-new.ensures) ∙ bound _ read ∙ through (OtherNumbers 3 0) _ (sym c.joins.ensures ∙ must_last c.joins.result (OtherNumbers 3 0) (sym c.in-ok-same-numbers.ensures)))
+    (link_roots_are F cells enough l.old l.new l.digests.now (link_read w 3 c.args.link.now (link_of w l) read).0 c.in_ok-link.ensures.whole
+    (g.C.Value.Words.bytes c.in_ok-old.old.root) (g.C.Value.Words.bytes c.in_ok-new.new.root))
+    ∙ sym (through TooFewCells _ some ∙ bound _ (sym c.in_ok-old.ensures) ∙ bound _ (sym c.in_ok-new.ensures) ∙ bound _ read ∙ through (OtherNumbers 3 0) _ (sym c.joins.ensures ∙ must_last c.joins.result (OtherNumbers 3 0) (sym c.in_ok-same_numbers.ensures)))

@@ -13,15 +13,15 @@ use Rattle.checks.proofs.Roots.{stopped, leaf_ok, leaf_err, path_root_is}
 use Rattle.checks.proofs.Single.{proof_read}
 use Rattle.checks.proofs.proofs.checked.Goals as goal
 
-pub returns-in-err-leaf : goal.returns-in-err-leaf
-returns-in-err-leaf g c =
+pub returns-in_err-leaf : goal.returns-in_err-leaf
+returns-in_err-leaf g c =
     let F = from_zeros g.C.Value.Words.width g.C.Compression.f in
     let cells : ℕ = length c.args.spans.now in
-    let some = must_last (leb 21 cells) TooFewCells (sym c.in-ok-enough.ensures) in
-    let p = err_from_is_err_and c.from-residual-in-err-leaf.result c.from-residual-in-err-leaf.ensures.1 in
+    let some = must_last (leb 21 cells) TooFewCells (sym c.in_ok-enough.ensures) in
+    let p = err_from_is_err_and c.from_residual-in_err-leaf.result c.from_residual-in_err-leaf.ensures.1 in
     p.1 ∙ ap (λ r. Err r) p.2
-    ∙ sym (through TooFewCells _ some ∙ bound _ (sym c.in-ok-head.ensures)
-    ∙ stopped _ (leaf_err F 2 c.args.entry.now c.in-err-leaf.field-0.0 c.in-err-leaf.ensures))
+    ∙ sym (through TooFewCells _ some ∙ bound _ (sym c.in_ok-head.ensures)
+    ∙ stopped _ (leaf_err F 2 c.args.entry.now c.in_err-leaf.field-0.0 c.in_err-leaf.ensures))
 
 pub returns : goal.returns
 returns g c =
@@ -29,16 +29,16 @@ returns g c =
     let F = from_zeros w g.C.Compression.f in
     let cells : ℕ = length c.args.spans.now in
     let e : Bytes = c.args.entry.now in
-    let h = c.in-ok-head.head in
-    let p = c.in-ok-proof.proof in
-    let some = must_last (leb 21 cells) TooFewCells (sym c.in-ok-enough.ensures) in
-    let enough : 21 ≤ cells = leb_from 21 cells TooFewCells c.in-ok-enough.ensures in
-    let leaf = leaf_ok F 2 e (g.C.Value.Words.bytes c.in-ok-leaf.leaf) c.in-ok-leaf.ensures in
-    let read = sym c.in-ok-proof.ensures.answer in
-    let same = must_last (eqb p.size c.size.result) (OtherNumbers 3 0) (sym c.in-ok-same-numbers.ensures) in
+    let h = c.in_ok-head.head in
+    let p = c.in_ok-proof.proof in
+    let some = must_last (leb 21 cells) TooFewCells (sym c.in_ok-enough.ensures) in
+    let enough : 21 ≤ cells = leb_from 21 cells TooFewCells c.in_ok-enough.ensures in
+    let leaf = leaf_ok F 2 e (g.C.Value.Words.bytes c.in_ok-leaf.leaf) c.in_ok-leaf.ensures in
+    let read = sym c.in_ok-proof.ensures.answer in
+    let same = must_last (eqb p.size c.size.result) (OtherNumbers 3 0) (sym c.in_ok-same_numbers.ensures) in
     c.proven.ensures
     ∙ ap (λ (t : Bool). must t (WrongRoot 3 0))
-    (path_root_is F cells enough p.index p.size p.path.now (proof_read w 3 c.args.proof.now (proof_of w p) read).0 c.in-ok-proof.ensures.whole
-    (g.C.Value.Words.bytes c.in-ok-leaf.leaf) (g.C.Value.Words.bytes h.root)
+    (path_root_is F cells enough p.index p.size p.path.now (proof_read w 3 c.args.proof.now (proof_of w p) read).0 c.in_ok-proof.ensures.whole
+    (g.C.Value.Words.bytes c.in_ok-leaf.leaf) (g.C.Value.Words.bytes h.root)
     ∙ ap (λ (d : Bytes). bytes_eq (rebuilt F p.index p.size d (digests_in w p.path.now)) (g.C.Value.Words.bytes h.root)) leaf.1)
-    ∙ sym (through TooFewCells _ some ∙ bound _ (sym c.in-ok-head.ensures) ∙ through (TooLong 2) _ leaf.0 ∙ bound _ read ∙ through (OtherNumbers 3 0) _ (ap (eqb p.size) (sym c.size.ensures.0) ∙ same))
+    ∙ sym (through TooFewCells _ some ∙ bound _ (sym c.in_ok-head.ensures) ∙ through (TooLong 2) _ leaf.0 ∙ bound _ read ∙ through (OtherNumbers 3 0) _ (ap (eqb p.size) (sym c.size.ensures.0) ∙ same))

@@ -9,5 +9,5 @@ pub returns : goal.returns
 returns g c =
     let w : ℕ = g.C.Value.Words.width in
     let F : Hashing = from_zeros w g.C.Compression.f in
-    let sized : Sized F = sized_from w g.C.Compression.f g.met.Value.Words.least g.met.Value.Words.most g.met.C.Compression.outputs in
+    let sized : Sized F = sized_from w g.C.Compression.f g.met.C.Value.Words.least g.met.C.Value.Words.most g.met.C.Compression.outputs in
     proofs_written F sized
