@@ -74,7 +74,7 @@ fn hash_answer<C: Compression>(c: &C, heap: Global, message: &[u8]) -> Result<An
 
 // A copy of the bytes that words stand for.
 pub fn bytes_of<D: Words>(heap: Global, words: D) -> Result<Vec<u8>, AllocError>
-    ensures { IfOk result (λ v. v.items ≡ bytes words) }
+    ensures { IfOk result (λ v. v.items ≡ D.bytes words) }
 {
     let mut all = vec![in heap; 0; D::size()]?;
     words.store(all.as_mut_slice(), 0);

@@ -6,7 +6,7 @@ pub loop-preserved : goal.loop-preserved
 loop-preserved c =
     let bytes = c.args.bytes.now in
     let n = c.loop.counter in
-    let added = c.in-ok-extend-from-slice.ensures in (
-      copies_more n bytes (vec_items c.args.all.now) (vec_items c.loop.all) (vec_items c.extend-from-slice.new.self) added.items c.loop.invariant.0,
+    let added = c.in_ok-extend_from_slice-in-Some.ensures in (
+      copies_more n bytes (vec_items c.args.all.now) (vec_items c.loop.all) (vec_items c.extend_from_slice.new.self) added.items c.loop.invariant.0,
       omega (arith, added.len, mul-add (length bytes) n 1),
     )

@@ -11,11 +11,11 @@ loop-byte-init g c = none_yet g.W.Write.write_str_gives c.args.f.now
 pub loop-byte-preserved : goal.loop-byte-preserved
 loop-byte-preserved g c =
     byte_more g.W.Write.write_str_gives c.args.self.now.0.now c.loop-byte.byte-index c.digit.result c.digit-in-loop-byte.result
-    c.args.f.now c.loop-byte.f c.write-char.new.self c.write-char-in-loop-byte.new.self
-    c.write-char.result c.write-char-in-loop-byte.result _ _
+    c.args.f.now c.loop-byte.f c.write_char.new.self c.write_char-in-loop-byte.new.self
+    c.write_char.result c.write_char-in-loop-byte.result _ _
     c.loop-byte-test.true (search rules) c.digit.ensures c.digit-in-loop-byte.ensures c.loop-byte.invariant
-    c.write-char.ensures.writes c.in-ok-write-char.was
-    c.write-char-in-loop-byte.ensures.writes c.in-ok-write-char-2.was
+    c.write_char.ensures.writes c.in_ok-write_char.was
+    c.write_char-in-loop-byte.ensures.writes c.in_ok-write_char-2.was
 
 pub returns-clause-writes : goal.returns-clause-writes
 returns-clause-writes g c plain ok =

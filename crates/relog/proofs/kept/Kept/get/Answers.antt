@@ -9,7 +9,7 @@ pub returns-in-Some : goal.returns-in-Some
 returns-in-Some c =
     let names = c.args.self.now.names in
     let found = text.found names c.args.name.now (search rules) _ c.in-Some.ensures.finds (btree-map-from-valid string_cmp_total names c.args.self.now.lawful) in
-    ap Some c.as-slice.ensures.value ∙ ap (option_map vec_items) found
+    ap Some c.as_slice.ensures.value ∙ ap (option_map vec_items) found
 
 pub returns-in-None : goal.returns-in-None
 returns-in-None c =
