@@ -8,7 +8,7 @@ pub returns-in-Some : goal.returns-in-Some
 returns-in-Some g c =
     let F = from_zeros g.C.Value.Words.width g.C.Compression.f in
     let b : List ℕ = block_bytes c.in-Some.m in
-    ap (λ (h : List ℕ). Some (h, b)) c.value-before.ensures ∙ sym (input_there F c.args.message.now c.args.k b (sym c.in-Some.ensures))
+    ap (λ (h : List ℕ). Some (h, b)) c.value_before.ensures ∙ sym (input_there F c.args.message.now c.args.k b (sym c.in-Some.ensures))
 
 pub returns-in-None : goal.returns-in-None
 returns-in-None g c =

@@ -10,19 +10,19 @@ use Rattle.conflict.proofs.Positions.{one_more, blocks_even}
 use Rattle.conflict.proofs.inputs.same_from.Goals as goal
 use Rattle.conflict.proofs.inputs.same_from.Goals.{then-not-same, else-not-same}
 
-pub overflow-add-k-end : goal.overflow-add-k-end
-overflow-add-k-end g c = record { fits = omega (arith, c.last-block-k-end.ensures, length_blocks c.args.x.now) }
+pub overflow_add-k-end : goal.overflow_add-k-end
+overflow_add-k-end g c = record { fits = omega (arith, c.last_block-k-end.ensures, length_blocks c.args.x.now) }
 
-pub returns-in-default : goal.returns-in-default
-returns-in-default g c =
+pub returns-in_default : goal.returns-in_default
+returns-in_default g c =
     let x : List ℕ = c.args.x.now in
-    absurd (omega (arith, past (blocks x) c.loop-k.k (sym c.in-default.ensures), c.last-block-k-end.ensures))
+    absurd (omega (arith, past (blocks x) c.loop-k.k (sym c.in_default.ensures), c.last_block-k-end.ensures))
 
-pub returns-in-default-padded-block : goal.returns-in-default-padded-block
-returns-in-default-padded-block g c =
+pub returns-in_default-padded_block : goal.returns-in_default-padded_block
+returns-in_default-padded_block g c =
     let x : List ℕ = c.args.x.now in
     let y : List ℕ = c.args.y.now in
-    absurd (omega (arith, past (blocks y) c.loop-k.k (sym c.in-default-padded-block.ensures), c.last-block-k-end.ensures, blocks_even x y c.requires))
+    absurd (omega (arith, past (blocks y) c.loop-k.k (sym c.in_default-padded_block.ensures), c.last_block-k-end.ensures, blocks_even x y c.requires))
 
 pub loop-k-preserved : goal.loop-k-preserved
 loop-k-preserved g c =
@@ -34,13 +34,13 @@ loop-k-preserved g c =
     let k : ℕ = c.loop-k.k in
     let i = c.loop-k.invariant in
     let u : List ℕ = block_bytes c.in-Some.a in
-    let v : List ℕ = block_bytes c.in-Some-padded-block.b in
+    let v : List ℕ = block_bytes c.in-Some-padded_block.b in
     let V : ℕ → Type 0 = λ j. value_before F x j ≡ value_before F y j in
     let few = i.2 in
     let one : b c.compress-first.result ≡ value_before F x (k + 1) =
     c.compress-first.ensures ∙ ap (λ (h : List ℕ). f h u) i.0 ∙ sym (value_more F x k u (sym c.in-Some.ensures)) in
     let two : b c.compress-second.result ≡ value_before F y (k + 1) =
-    c.compress-second.ensures ∙ ap (λ (h : List ℕ). f h v) i.1 ∙ sym (value_more F y k v (sym c.in-Some-padded-block.ensures)) in
+    c.compress-second.ensures ∙ ap (λ (h : List ℕ). f h v) i.1 ∙ sym (value_more F y k v (sym c.in-Some-padded_block.ensures)) in
     elim c.if-not-same.branch [
       | then-not-same w ↦ (
           let at = w.from-is in

@@ -13,62 +13,62 @@ use Rattle.checks.proofs.Single.{link_read}
 use Rattle.conflict.specs.Two.{two_links_of, roots_of_links}
 use Rattle.conflict.proofs.links.accepted.Goals as goal
 
-pub returns-in-err-linked : goal.returns-in-err-linked
-returns-in-err-linked g c =
+pub returns-in_err-linked : goal.returns-in_err-linked
+returns-in_err-linked g c =
     let w : ℕ = g.C.Value.Words.width in
     let b = g.C.Value.Words.bytes in
     let F = from_zeros w g.C.Compression.f in
     let cells : ℕ = length c.args.spans.now in
-    let some = must_last (leb 21 cells) TooFewCells (sym c.in-ok-enough.ensures) in
-    let enough : 21 ≤ cells = leb_from 21 cells TooFewCells c.in-ok-enough.ensures in
-    let o = c.in-ok-g.g in
-    let k = c.in-ok-k.k in
-    let n = c.in-ok-h.h in
-    let l = c.in-ok-first.first in
-    let m = c.in-ok-second.second in
-    let read = sym c.in-ok-first.ensures.answer in
-    let read' = sym c.in-ok-second.ensures.answer in
-    let sizes = sym c.joins.ensures ∙ must_last c.joins.result (OtherNumbers 2 0) (sym c.in-ok-same-numbers.ensures) in
-    let sizes' = sym c.joins-too.ensures ∙ must_last c.joins-too.result (OtherNumbers 4 0) (sym c.in-ok-same-numbers-2.ensures) in
-    let first = link_roots_are F cells enough l.old l.new l.digests.now (link_read w 2 c.args.link.now (link_of w l) read).0 c.in-ok-first.ensures.whole (b o.root) (b n.root) in
-    let r = err_from_is_err_and c.from-residual-in-err-linked.result c.from-residual-in-err-linked.ensures.1 in
+    let some = must_last (leb 21 cells) TooFewCells (sym c.in_ok-enough.ensures) in
+    let enough : 21 ≤ cells = leb_from 21 cells TooFewCells c.in_ok-enough.ensures in
+    let o = c.in_ok-g.g in
+    let k = c.in_ok-k.k in
+    let n = c.in_ok-h.h in
+    let l = c.in_ok-first.first in
+    let m = c.in_ok-second.second in
+    let read = sym c.in_ok-first.ensures.answer in
+    let read' = sym c.in_ok-second.ensures.answer in
+    let sizes = sym c.joins.ensures ∙ must_last c.joins.result (OtherNumbers 2 0) (sym c.in_ok-same_numbers.ensures) in
+    let sizes' = sym c.joins_too.ensures ∙ must_last c.joins_too.result (OtherNumbers 4 0) (sym c.in_ok-same_numbers-2.ensures) in
+    let first = link_roots_are F cells enough l.old l.new l.digests.now (link_read w 2 c.args.link.now (link_of w l) read).0 c.in_ok-first.ensures.whole (b o.root) (b n.root) in
+    let r = err_from_is_err_and c.from_residual-in_err-linked.result c.from_residual-in_err-linked.ensures.1 in
     record {
       answer = ap (result_map_both (two_links_of w b) (λ (z : Refusal). z)) r.1 ∙ ap (λ (z : Refusal). Err z) r.2
-          ∙ sym (ap roots_of_links (through TooFewCells _ some ∙ bound _ (sym c.in-ok-g.ensures) ∙ bound _ read ∙ bound _ (sym c.in-ok-k.ensures) ∙ bound _ read' ∙ bound _ (sym c.in-ok-h.ensures)
+          ∙ sym (ap roots_of_links (through TooFewCells _ some ∙ bound _ (sym c.in_ok-g.ensures) ∙ bound _ read ∙ bound _ (sym c.in_ok-k.ensures) ∙ bound _ read' ∙ bound _ (sym c.in_ok-h.ensures)
           ∙ through (OtherNumbers 2 0) _ sizes ∙ through (OtherNumbers 4 0) _ sizes'
-          ∙ stopped _ (sym (c.in-err-linked.ensures ∙ ap (λ (z : Bool). must z (WrongRoot 2 0)) first))));
+          ∙ stopped _ (sym (c.in_err-linked.ensures ∙ ap (λ (z : Bool). must z (WrongRoot 2 0)) first))));
       whole = rw r.1 tt;
     }
 
-pub returns-in-err-linked-2 : goal.returns-in-err-linked-2
-returns-in-err-linked-2 g c =
+pub returns-in_err-linked-2 : goal.returns-in_err-linked-2
+returns-in_err-linked-2 g c =
     let w : ℕ = g.C.Value.Words.width in
     let b = g.C.Value.Words.bytes in
     let F = from_zeros w g.C.Compression.f in
     let cells : ℕ = length c.args.spans.now in
-    let some = must_last (leb 21 cells) TooFewCells (sym c.in-ok-enough.ensures) in
-    let enough : 21 ≤ cells = leb_from 21 cells TooFewCells c.in-ok-enough.ensures in
-    let o = c.in-ok-g.g in
-    let k = c.in-ok-k.k in
-    let n = c.in-ok-h.h in
-    let l = c.in-ok-first.first in
-    let m = c.in-ok-second.second in
-    let read = sym c.in-ok-first.ensures.answer in
-    let read' = sym c.in-ok-second.ensures.answer in
-    let sizes = sym c.joins.ensures ∙ must_last c.joins.result (OtherNumbers 2 0) (sym c.in-ok-same-numbers.ensures) in
-    let sizes' = sym c.joins-too.ensures ∙ must_last c.joins-too.result (OtherNumbers 4 0) (sym c.in-ok-same-numbers-2.ensures) in
-    let first = link_roots_are F cells enough l.old l.new l.digests.now (link_read w 2 c.args.link.now (link_of w l) read).0 c.in-ok-first.ensures.whole (b o.root) (b n.root) in
+    let some = must_last (leb 21 cells) TooFewCells (sym c.in_ok-enough.ensures) in
+    let enough : 21 ≤ cells = leb_from 21 cells TooFewCells c.in_ok-enough.ensures in
+    let o = c.in_ok-g.g in
+    let k = c.in_ok-k.k in
+    let n = c.in_ok-h.h in
+    let l = c.in_ok-first.first in
+    let m = c.in_ok-second.second in
+    let read = sym c.in_ok-first.ensures.answer in
+    let read' = sym c.in_ok-second.ensures.answer in
+    let sizes = sym c.joins.ensures ∙ must_last c.joins.result (OtherNumbers 2 0) (sym c.in_ok-same_numbers.ensures) in
+    let sizes' = sym c.joins_too.ensures ∙ must_last c.joins_too.result (OtherNumbers 4 0) (sym c.in_ok-same_numbers-2.ensures) in
+    let first = link_roots_are F cells enough l.old l.new l.digests.now (link_read w 2 c.args.link.now (link_of w l) read).0 c.in_ok-first.ensures.whole (b o.root) (b n.root) in
     let later : ℕ = length c.linked.new.spans in
     let kept = c.linked.auto.spans in
     let enough' : 21 ≤ later = omega arith in
-    let second = link_roots_are F later enough' m.old m.new m.digests.now (link_read w 4 c.args.other-link.now (link_of w m) read').0 c.in-ok-second.ensures.whole (b k.root) (b n.root) in
-    let r = err_from_is_err_and c.from-residual-in-err-linked-2.result c.from-residual-in-err-linked-2.ensures.1 in
+    let second = link_roots_are F later enough' m.old m.new m.digests.now (link_read w 4 c.args.other_link.now (link_of w m) read').0 c.in_ok-second.ensures.whole (b k.root) (b n.root) in
+    let r = err_from_is_err_and c.from_residual-in_err-linked-2.result c.from_residual-in_err-linked-2.ensures.1 in
     record {
       answer = ap (result_map_both (two_links_of w b) (λ (z : Refusal). z)) r.1 ∙ ap (λ (z : Refusal). Err z) r.2
-          ∙ sym (ap roots_of_links (through TooFewCells _ some ∙ bound _ (sym c.in-ok-g.ensures) ∙ bound _ read ∙ bound _ (sym c.in-ok-k.ensures) ∙ bound _ read' ∙ bound _ (sym c.in-ok-h.ensures)
+          ∙ sym (ap roots_of_links (through TooFewCells _ some ∙ bound _ (sym c.in_ok-g.ensures) ∙ bound _ read ∙ bound _ (sym c.in_ok-k.ensures) ∙ bound _ read' ∙ bound _ (sym c.in_ok-h.ensures)
           ∙ through (OtherNumbers 2 0) _ sizes ∙ through (OtherNumbers 4 0) _ sizes'
-          ∙ through (WrongRoot 2 0) _ (sym first ∙ must_last _ (WrongRoot 2 0) (sym c.in-ok-linked.ensures))
-          ∙ stopped _ (sym (c.in-err-linked-2.ensures ∙ ap (λ (z : Bool). must z (WrongRoot 4 0)) second))));
+          ∙ through (WrongRoot 2 0) _ (sym first ∙ must_last _ (WrongRoot 2 0) (sym c.in_ok-linked.ensures))
+          ∙ stopped _ (sym (c.in_err-linked-2.ensures ∙ ap (λ (z : Bool). must z (WrongRoot 4 0)) second))));
       whole = rw r.1 tt;
     }
 
@@ -78,26 +78,26 @@ returns g c =
     let b = g.C.Value.Words.bytes in
     let F = from_zeros w g.C.Compression.f in
     let cells : ℕ = length c.args.spans.now in
-    let some = must_last (leb 21 cells) TooFewCells (sym c.in-ok-enough.ensures) in
-    let enough : 21 ≤ cells = leb_from 21 cells TooFewCells c.in-ok-enough.ensures in
-    let o = c.in-ok-g.g in
-    let k = c.in-ok-k.k in
-    let n = c.in-ok-h.h in
-    let l = c.in-ok-first.first in
-    let m = c.in-ok-second.second in
-    let read = sym c.in-ok-first.ensures.answer in
-    let read' = sym c.in-ok-second.ensures.answer in
-    let sizes = sym c.joins.ensures ∙ must_last c.joins.result (OtherNumbers 2 0) (sym c.in-ok-same-numbers.ensures) in
-    let sizes' = sym c.joins-too.ensures ∙ must_last c.joins-too.result (OtherNumbers 4 0) (sym c.in-ok-same-numbers-2.ensures) in
-    let first = link_roots_are F cells enough l.old l.new l.digests.now (link_read w 2 c.args.link.now (link_of w l) read).0 c.in-ok-first.ensures.whole (b o.root) (b n.root) in
+    let some = must_last (leb 21 cells) TooFewCells (sym c.in_ok-enough.ensures) in
+    let enough : 21 ≤ cells = leb_from 21 cells TooFewCells c.in_ok-enough.ensures in
+    let o = c.in_ok-g.g in
+    let k = c.in_ok-k.k in
+    let n = c.in_ok-h.h in
+    let l = c.in_ok-first.first in
+    let m = c.in_ok-second.second in
+    let read = sym c.in_ok-first.ensures.answer in
+    let read' = sym c.in_ok-second.ensures.answer in
+    let sizes = sym c.joins.ensures ∙ must_last c.joins.result (OtherNumbers 2 0) (sym c.in_ok-same_numbers.ensures) in
+    let sizes' = sym c.joins_too.ensures ∙ must_last c.joins_too.result (OtherNumbers 4 0) (sym c.in_ok-same_numbers-2.ensures) in
+    let first = link_roots_are F cells enough l.old l.new l.digests.now (link_read w 2 c.args.link.now (link_of w l) read).0 c.in_ok-first.ensures.whole (b o.root) (b n.root) in
     let later : ℕ = length c.linked.new.spans in
     let kept = c.linked.auto.spans in
     let enough' : 21 ≤ later = omega arith in
-    let second = link_roots_are F later enough' m.old m.new m.digests.now (link_read w 4 c.args.other-link.now (link_of w m) read').0 c.in-ok-second.ensures.whole (b k.root) (b n.root) in
+    let second = link_roots_are F later enough' m.old m.new m.digests.now (link_read w 4 c.args.other_link.now (link_of w m) read').0 c.in_ok-second.ensures.whole (b k.root) (b n.root) in
     record {
-      answer = (λ i. Ok ((b (c.root.ensures i), link_of w l), (b (c.root-2.ensures i), link_of w m))) ∙ sym (ap roots_of_links (through TooFewCells _ some ∙ bound _ (sym c.in-ok-g.ensures) ∙ bound _ read ∙ bound _ (sym c.in-ok-k.ensures) ∙ bound _ read' ∙ bound _ (sym c.in-ok-h.ensures)
+      answer = (λ i. Ok ((b (c.root.ensures i), link_of w l), (b (c.root-2.ensures i), link_of w m))) ∙ sym (ap roots_of_links (through TooFewCells _ some ∙ bound _ (sym c.in_ok-g.ensures) ∙ bound _ read ∙ bound _ (sym c.in_ok-k.ensures) ∙ bound _ read' ∙ bound _ (sym c.in_ok-h.ensures)
           ∙ through (OtherNumbers 2 0) _ sizes ∙ through (OtherNumbers 4 0) _ sizes'
-          ∙ through (WrongRoot 2 0) _ (sym first ∙ must_last _ (WrongRoot 2 0) (sym c.in-ok-linked.ensures))
-          ∙ through (WrongRoot 4 0) _ (sym second ∙ must_last _ (WrongRoot 4 0) (sym c.in-ok-linked-2.ensures))));
-      whole = (c.in-ok-first.ensures.whole, c.in-ok-second.ensures.whole);
+          ∙ through (WrongRoot 2 0) _ (sym first ∙ must_last _ (WrongRoot 2 0) (sym c.in_ok-linked.ensures))
+          ∙ through (WrongRoot 4 0) _ (sym second ∙ must_last _ (WrongRoot 4 0) (sym c.in_ok-linked-2.ensures))));
+      whole = (c.in_ok-first.ensures.whole, c.in_ok-second.ensures.whole);
     }

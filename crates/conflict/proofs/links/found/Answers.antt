@@ -14,50 +14,50 @@ use Rattle.conflict.specs.Two.{two_links_of}
 use Rattle.conflict.proofs.Holding.{LinksHold, links_hold, links_pair_holds, roots_ok, roots_err}
 use Rattle.conflict.proofs.links.found.Goals as goal
 
-pub returns-in-err-two : goal.returns-in-err-two
-returns-in-err-two g c =
+pub returns-in_err-two : goal.returns-in_err-two
+returns-in_err-two g c =
     let w : ℕ = g.C.Value.Words.width in
     let F = from_zeros w g.C.Compression.f in
     let cells : ℕ = length c.args.spans.now in
     let out : Bytes = c.args.out.now in
-    let r = err_from_is_err_and c.from-residual.result c.from-residual.ensures.1 in
-    let e = c.in-err-two.field-0.0 in
-    let refused : conflict_links_answer F cells (length out) c.args.old.now c.args.link.now c.args.other-old.now c.args.other-link.now c.args.new.now ≡ Err e =
-    halted _ (roots_err (two_links F cells c.args.old.now c.args.link.now c.args.other-old.now c.args.other-link.now c.args.new.now) e c.in-err-two.ensures.answer) in
+    let r = err_from_is_err_and c.from_residual.result c.from_residual.ensures.1 in
+    let e = c.in_err-two.field-0.0 in
+    let refused : conflict_links_answer F cells (length out) c.args.old.now c.args.link.now c.args.other_old.now c.args.other_link.now c.args.new.now ≡ Err e =
+    halted _ (roots_err (two_links F cells c.args.old.now c.args.link.now c.args.other_old.now c.args.other_link.now c.args.new.now) e c.in_err-two.ensures.answer) in
     record { answer = r.1 ∙ ap (λ z. Err z) r.2 ∙ sym (ap length_of refused); output = sym (ap (λ (a : Answer Bytes). output_after a out) refused) }
 
-pub returns-then-both-same : goal.returns-then-both-same
-returns-then-both-same g c =
+pub returns-then-both_same : goal.returns-then-both_same
+returns-then-both_same g c =
     let w : ℕ = g.C.Value.Words.width in
     let b = g.C.Value.Words.bytes in
     let F = from_zeros w g.C.Compression.f in
     let cells : ℕ = length c.args.spans.now in
     let out : Bytes = c.args.out.now in
-    let t = c.in-ok-two.two in
-    let found = roots_ok (two_links F cells c.args.old.now c.args.link.now c.args.other-old.now c.args.other-link.now c.args.new.now) (two_links_of w b t) c.in-ok-two.ensures.answer in
+    let t = c.in_ok-two.two in
+    let found = roots_ok (two_links F cells c.args.old.now c.args.link.now c.args.other_old.now c.args.other_link.now c.args.new.now) (two_links_of w b t) c.in_ok-two.ensures.answer in
     let heads = found.0 in
-    let refused : conflict_links_answer F cells (length out) c.args.old.now c.args.link.now c.args.other-old.now c.args.other-link.now c.args.new.now ≡ Err EqualPapers =
-    bound _ found.1 ∙ ap (λ (z : Bool). must (not z) EqualPapers >> pair_for (length out) EqualPapers (links_conflict F heads.0.0 heads.0.1 heads.1.0 heads.1.1)) (sym c.both-same.ensures ∙ c.if-both-same.true) in
+    let refused : conflict_links_answer F cells (length out) c.args.old.now c.args.link.now c.args.other_old.now c.args.other_link.now c.args.new.now ≡ Err EqualPapers =
+    bound _ found.1 ∙ ap (λ (z : Bool). must (not z) EqualPapers >> pair_for (length out) EqualPapers (links_conflict F heads.0.0 heads.0.1 heads.1.0 heads.1.1)) (sym c.both_same.ensures ∙ c.if-both_same.true) in
     record { answer = sym (ap length_of refused); output = sym (ap (λ (a : Answer Bytes). output_after a out) refused) }
 
-pub returns-in-default : goal.returns-in-default
-returns-in-default g c =
+pub returns-in_default : goal.returns-in_default
+returns-in_default g c =
     let w : ℕ = g.C.Value.Words.width in
     let b = g.C.Value.Words.bytes in
     let F = from_zeros w g.C.Compression.f in
     let cells : ℕ = length c.args.spans.now in
     let out : Bytes = c.args.out.now in
-    let t = c.in-ok-two.two in
-    let found = roots_ok (two_links F cells c.args.old.now c.args.link.now c.args.other-old.now c.args.other-link.now c.args.new.now) (two_links_of w b t) c.in-ok-two.ensures.answer in
+    let t = c.in_ok-two.two in
+    let found = roots_ok (two_links F cells c.args.old.now c.args.link.now c.args.other_old.now c.args.other_link.now c.args.new.now) (two_links_of w b t) c.in_ok-two.ensures.answer in
     let heads = found.0 in
     let later : ℕ = length c.accepted.new.spans in
     let kept = c.accepted.auto.spans in
     let l = t.first in
     let m = t.second in
-    let held = links_hold F cells c.args.old.now c.args.link.now c.args.other-old.now c.args.other-link.now c.args.new.now heads found.1 in
+    let held = links_hold F cells c.args.old.now c.args.link.now c.args.other_old.now c.args.other_link.now c.args.new.now heads found.1 in
     let least = held.0 in
     let enough : 21 ≤ later = omega arith in
-    let whole = c.in-ok-two.ensures.whole in
+    let whole = c.in_ok-two.ensures.whole in
     let same = found.2 in
     let one : link_of w l ≡ heads.0.1 = ap (λ (z : (Bytes × Link) × (Bytes × Link)). z.0.1) same in
     let two : link_of w m ≡ heads.1.1 = ap (λ (z : (Bytes × Link) × (Bytes × Link)). z.1.1) same in
@@ -67,10 +67,10 @@ returns-in-default g c =
     (λ i. links_pair F l.old l.new later (same i).0.0 l.digests.now (same i).1.0 m.digests.now)
     ∙ links_pair_holds F later enough heads.0.0 heads.1.0 held.1.0 l.old l.new m.old m.new l.digests.now m.digests.now hold whole.0 whole.1
     ∙ (λ i. links_conflict F heads.0.0 (one i) heads.1.0 (two i)) in
-    let run : conflict_links_answer F cells (length out) c.args.old.now c.args.link.now c.args.other-old.now c.args.other-link.now c.args.new.now
+    let run : conflict_links_answer F cells (length out) c.args.old.now c.args.link.now c.args.other_old.now c.args.other_link.now c.args.new.now
     ≡ pair_for (length out) EqualPapers (links_conflict F heads.0.0 heads.0.1 heads.1.0 heads.1.1) =
-    bound _ found.1 ∙ through EqualPapers _ (ap not (sym c.both-same.ensures ∙ c.if-both-same.false)) in
-    let refused = run ∙ ap (pair_for (length out) EqualPapers) (sym is ∙ sym c.in-default.ensures) in
+    bound _ found.1 ∙ through EqualPapers _ (ap not (sym c.both_same.ensures ∙ c.if-both_same.false)) in
+    let refused = run ∙ ap (pair_for (length out) EqualPapers) (sym is ∙ sym c.in_default.ensures) in
     record { answer = sym (ap length_of refused); output = sym (ap (λ (a : Answer Bytes). output_after a out) refused) }
 
 pub returns : goal.returns
@@ -80,17 +80,17 @@ returns g c =
     let F = from_zeros w g.C.Compression.f in
     let cells : ℕ = length c.args.spans.now in
     let out : Bytes = c.args.out.now in
-    let t = c.in-ok-two.two in
-    let found = roots_ok (two_links F cells c.args.old.now c.args.link.now c.args.other-old.now c.args.other-link.now c.args.new.now) (two_links_of w b t) c.in-ok-two.ensures.answer in
+    let t = c.in_ok-two.two in
+    let found = roots_ok (two_links F cells c.args.old.now c.args.link.now c.args.other_old.now c.args.other_link.now c.args.new.now) (two_links_of w b t) c.in_ok-two.ensures.answer in
     let heads = found.0 in
     let later : ℕ = length c.accepted.new.spans in
     let kept = c.accepted.auto.spans in
     let l = t.first in
     let m = t.second in
-    let held = links_hold F cells c.args.old.now c.args.link.now c.args.other-old.now c.args.other-link.now c.args.new.now heads found.1 in
+    let held = links_hold F cells c.args.old.now c.args.link.now c.args.other_old.now c.args.other_link.now c.args.new.now heads found.1 in
     let least = held.0 in
     let enough : 21 ≤ later = omega arith in
-    let whole = c.in-ok-two.ensures.whole in
+    let whole = c.in_ok-two.ensures.whole in
     let same = found.2 in
     let one : link_of w l ≡ heads.0.1 = ap (λ (z : (Bytes × Link) × (Bytes × Link)). z.0.1) same in
     let two : link_of w m ≡ heads.1.1 = ap (λ (z : (Bytes × Link) × (Bytes × Link)). z.1.1) same in
@@ -100,11 +100,11 @@ returns g c =
     (λ i. links_pair F l.old l.new later (same i).0.0 l.digests.now (same i).1.0 m.digests.now)
     ∙ links_pair_holds F later enough heads.0.0 heads.1.0 held.1.0 l.old l.new m.old m.new l.digests.now m.digests.now hold whole.0 whole.1
     ∙ (λ i. links_conflict F heads.0.0 (one i) heads.1.0 (two i)) in
-    let run : conflict_links_answer F cells (length out) c.args.old.now c.args.link.now c.args.other-old.now c.args.other-link.now c.args.new.now
+    let run : conflict_links_answer F cells (length out) c.args.old.now c.args.link.now c.args.other_old.now c.args.other_link.now c.args.new.now
     ≡ pair_for (length out) EqualPapers (links_conflict F heads.0.0 heads.0.1 heads.1.0 heads.1.1) =
-    bound _ found.1 ∙ through EqualPapers _ (ap not (sym c.both-same.ensures ∙ c.if-both-same.false)) in
+    bound _ found.1 ∙ through EqualPapers _ (ap not (sym c.both_same.ensures ∙ c.if-both_same.false)) in
     let wrote = run ∙ ap (pair_for (length out) EqualPapers) (sym is ∙ sym c.in-Some.ensures) in
     record {
-      answer = c.write-pair.ensures.answer ∙ sym (ap length_of wrote);
-      output = c.write-pair.ensures.output ∙ sym (ap (λ (a : Answer Bytes). output_after a out) wrote);
+      answer = c.write_pair.ensures.answer ∙ sym (ap length_of wrote);
+      output = c.write_pair.ensures.output ∙ sym (ap (λ (a : Answer Bytes). output_after a out) wrote);
     }

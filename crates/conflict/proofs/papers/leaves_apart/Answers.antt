@@ -12,7 +12,7 @@ returns g c =
     let z : List ℕ = replicate 4097 0 in
     let fits = c.requires.first in
     let fits' = c.requires.second in
-    c.inputs-apart.ensures
+    c.inputs_apart.ensures
     ∙ ap₂ (inputs_apart F)
-    (ap (take (1 + length e - 0)) (c.leaf-message.ensures ∙ stored_there 0 (0 ∷ e) z (omega arith)) ∙ written_front (0 ∷ e) z (1 + length e - 0) (omega arith))
-    (ap (take (1 + length d - 0)) (c.leaf-message-2.ensures ∙ stored_there 0 (0 ∷ d) z (omega arith)) ∙ written_front (0 ∷ d) z (1 + length d - 0) (omega arith))
+    (ap (take (1 + length e - 0)) (c.leaf_message.ensures ∙ stored_there 0 (0 ∷ e) z (omega arith)) ∙ written_front (0 ∷ e) z (1 + length e - 0) (omega arith))
+    (ap (take (1 + length d - 0)) (c.leaf_message-2.ensures ∙ stored_there 0 (0 ∷ d) z (omega arith)) ∙ written_front (0 ∷ d) z (1 + length d - 0) (omega arith))

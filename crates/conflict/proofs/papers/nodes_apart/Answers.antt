@@ -19,7 +19,7 @@ returns g c =
     let m' : List ℕ = 1 ∷ (b y.left ++ b y.right) in
     let l : length m ≡ 1 + w + w - 0 = omega (arith, length-append (b x.left) (b x.right), g.met.C.Value.Words.sized x.left, g.met.C.Value.Words.sized x.right) in
     let l' : length m' ≡ 1 + w + w - 0 = omega (arith, length-append (b y.left) (b y.right), g.met.C.Value.Words.sized y.left, g.met.C.Value.Words.sized y.right) in
-    c.inputs-apart.ensures
+    c.inputs_apart.ensures
     ∙ ap₂ (inputs_apart F)
-    (ap (take (1 + w + w - 0)) (c.node-message.ensures ∙ stored_there 0 m z (omega arith)) ∙ written_front m z (1 + w + w - 0) l)
-    (ap (take (1 + w + w - 0)) (c.node-message-2.ensures ∙ stored_there 0 m' z (omega arith)) ∙ written_front m' z (1 + w + w - 0) l')
+    (ap (take (1 + w + w - 0)) (c.node_message.ensures ∙ stored_there 0 m z (omega arith)) ∙ written_front m z (1 + w + w - 0) l)
+    (ap (take (1 + w + w - 0)) (c.node_message-2.ensures ∙ stored_there 0 m' z (omega arith)) ∙ written_front m' z (1 + w + w - 0) l')

@@ -11,8 +11,8 @@ use Rattle.conflict.specs.Conflicts.{pair_for, proofs_conflict, conflict_proofs_
 use Rattle.conflict.proofs.Holding.{proofs_hold, proofs_pair_holds}
 use Rattle.conflict.proofs.proofs.found.Goals as goal
 
-pub returns-in-default : goal.returns-in-default
-returns-in-default g c =
+pub returns-in_default : goal.returns-in_default
+returns-in_default g c =
     let w : ℕ = g.C.Value.Words.width in
     let b = g.C.Value.Words.bytes in
     let F = from_zeros w g.C.Compression.f in
@@ -21,18 +21,18 @@ returns-in-default g c =
     let kept = c.accepted.auto.spans in
     let out : Bytes = c.args.out.now in
     let e : Bytes = c.args.entry.now in
-    let d : Bytes = c.args.other-entry.now in
-    let p = c.in-ok-two.two.first in
-    let q = c.in-ok-two.two.second in
-    let two = sym c.in-ok-two.ensures.answer in
-    let k = proofs_hold F cells c.args.head.now e c.args.proof.now d c.args.other-proof.now (proof_of w p, proof_of w q) two in
+    let d : Bytes = c.args.other_entry.now in
+    let p = c.in_ok-two.two.first in
+    let q = c.in_ok-two.two.second in
+    let two = sym c.in_ok-two.ensures.answer in
+    let k = proofs_hold F cells c.args.head.now e c.args.proof.now d c.args.other_proof.now (proof_of w p, proof_of w q) two in
     let least = k.0 in
     let enough : 21 ≤ later = omega arith in
-    let whole = c.in-ok-two.ensures.whole in
+    let whole = c.in_ok-two.ensures.whole in
     let is = proofs_pair_holds F later enough e d k.1.0 p.index p.size q.index q.size p.path.now q.path.now k.1.1 whole.0 whole.1 in
-    let run : conflict_proofs_answer F cells (length out) c.args.head.now e c.args.proof.now d c.args.other-proof.now ≡ pair_for (length out) EqualPapers (proofs_conflict F e (proof_of w p) d (proof_of w q)) =
-    bound _ two ∙ through EqualPapers _ (ap not (sym c.both-same.ensures ∙ c.if-both-same.false)) in
-    let refused = run ∙ ap (pair_for (length out) EqualPapers) (sym is ∙ sym c.in-default.ensures) in
+    let run : conflict_proofs_answer F cells (length out) c.args.head.now e c.args.proof.now d c.args.other_proof.now ≡ pair_for (length out) EqualPapers (proofs_conflict F e (proof_of w p) d (proof_of w q)) =
+    bound _ two ∙ through EqualPapers _ (ap not (sym c.both_same.ensures ∙ c.if-both_same.false)) in
+    let refused = run ∙ ap (pair_for (length out) EqualPapers) (sym is ∙ sym c.in_default.ensures) in
     record { answer = sym (ap length_of refused); output = sym (ap (λ (a : Answer Bytes). output_after a out) refused) }
 
 pub returns : goal.returns
@@ -45,19 +45,19 @@ returns g c =
     let kept = c.accepted.auto.spans in
     let out : Bytes = c.args.out.now in
     let e : Bytes = c.args.entry.now in
-    let d : Bytes = c.args.other-entry.now in
-    let p = c.in-ok-two.two.first in
-    let q = c.in-ok-two.two.second in
-    let two = sym c.in-ok-two.ensures.answer in
-    let k = proofs_hold F cells c.args.head.now e c.args.proof.now d c.args.other-proof.now (proof_of w p, proof_of w q) two in
+    let d : Bytes = c.args.other_entry.now in
+    let p = c.in_ok-two.two.first in
+    let q = c.in_ok-two.two.second in
+    let two = sym c.in_ok-two.ensures.answer in
+    let k = proofs_hold F cells c.args.head.now e c.args.proof.now d c.args.other_proof.now (proof_of w p, proof_of w q) two in
     let least = k.0 in
     let enough : 21 ≤ later = omega arith in
-    let whole = c.in-ok-two.ensures.whole in
+    let whole = c.in_ok-two.ensures.whole in
     let is = proofs_pair_holds F later enough e d k.1.0 p.index p.size q.index q.size p.path.now q.path.now k.1.1 whole.0 whole.1 in
-    let run : conflict_proofs_answer F cells (length out) c.args.head.now e c.args.proof.now d c.args.other-proof.now ≡ pair_for (length out) EqualPapers (proofs_conflict F e (proof_of w p) d (proof_of w q)) =
-    bound _ two ∙ through EqualPapers _ (ap not (sym c.both-same.ensures ∙ c.if-both-same.false)) in
+    let run : conflict_proofs_answer F cells (length out) c.args.head.now e c.args.proof.now d c.args.other_proof.now ≡ pair_for (length out) EqualPapers (proofs_conflict F e (proof_of w p) d (proof_of w q)) =
+    bound _ two ∙ through EqualPapers _ (ap not (sym c.both_same.ensures ∙ c.if-both_same.false)) in
     let wrote = run ∙ ap (pair_for (length out) EqualPapers) (sym is ∙ sym c.in-Some.ensures) in
     record {
-      answer = c.write-pair.ensures.answer ∙ sym (ap length_of wrote);
-      output = c.write-pair.ensures.output ∙ sym (ap (λ (a : Answer Bytes). output_after a out) wrote);
+      answer = c.write_pair.ensures.answer ∙ sym (ap length_of wrote);
+      output = c.write_pair.ensures.output ∙ sym (ap (λ (a : Answer Bytes). output_after a out) wrote);
     }

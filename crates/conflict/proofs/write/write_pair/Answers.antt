@@ -12,20 +12,20 @@ use Rattle.record.specs.Records.{collision, spelled}
 use Rattle.record.specs.Views.{input_of}
 use Rattle.conflict.proofs.write.write_pair.Goals as goal
 
-pub returns-in-err-fits : goal.returns-in-err-fits
-returns-in-err-fits g c =
+pub returns-in_err-fits : goal.returns-in_err-fits
+returns-in_err-fits g c =
     let b = g.D.Words.bytes in
     let x : Input = input_of b c.args.pair.first in
     let y : Input = input_of b c.args.pair.second in
     let r : Bytes = spelled (collision x y) in
     let out : Bytes = c.args.out.now in
     let wide = g.met.D.Words.sized in
-    let long : length r ≡ c.collision-len-len.result =
-    c.collision-len-len.ensures.spells x y (wide c.args.pair.first.h, length_block c.args.pair.first.m, wide c.args.pair.second.h, length_block c.args.pair.second.m) in
-    let short : length out < c.collision-len-len.result = lt_from c.collision-len-len.result (length out) OutputShort _ c.in-err-fits.ensures in
+    let long : length r ≡ c.collision_len-len.result =
+    c.collision_len-len.ensures.spells x y (wide c.args.pair.first.h, length_block c.args.pair.first.m, wide c.args.pair.second.h, length_block c.args.pair.second.m) in
+    let short : length out < c.collision_len-len.result = lt_from c.collision_len-len.result (length out) OutputShort _ c.in_err-fits.ensures in
     let refused : fitting (length out) r ≡ Err OutputShort = fitting_short (length out) r (omega arith) in
-    let p = err_from_is_err_and c.from-residual.result c.from-residual.ensures.1 in
-    let e = (must_err _ OutputShort _ c.in-err-fits.ensures).1 in
+    let p = err_from_is_err_and c.from_residual.result c.from_residual.ensures.1 in
+    let e = (must_err _ OutputShort _ c.in_err-fits.ensures).1 in
     record {
       answer = p.1 ∙ ap (λ q. Err q) (p.2 ∙ e) ∙ sym (ap length_of refused);
       output = sym (ap (λ (a : Answer Bytes). output_after a out) refused);
@@ -39,11 +39,11 @@ returns g c =
     let r : Bytes = spelled (collision x y) in
     let out : Bytes = c.args.out.now in
     let wide = g.met.D.Words.sized in
-    let long : length r ≡ c.collision-len-len.result =
-    c.collision-len-len.ensures.spells x y (wide c.args.pair.first.h, length_block c.args.pair.first.m, wide c.args.pair.second.h, length_block c.args.pair.second.m) in
-    let room : c.collision-len-len.result ≤ length out = leb_from c.collision-len-len.result (length out) OutputShort c.in-ok-fits.ensures in
+    let long : length r ≡ c.collision_len-len.result =
+    c.collision_len-len.ensures.spells x y (wide c.args.pair.first.h, length_block c.args.pair.first.m, wide c.args.pair.second.h, length_block c.args.pair.second.m) in
+    let room : c.collision_len-len.result ≤ length out = leb_from c.collision_len-len.result (length out) OutputShort c.in_ok-fits.ensures in
     let accepted : fitting (length out) r ≡ Ok r = fitting_ok (length out) r (omega arith) in
     record {
       answer = ap (λ (k : ℕ). Ok k) (sym long) ∙ sym (ap length_of accepted);
-      output = c.write-collision.ensures ∙ stored_there 0 r out (omega arith) ∙ sym (ap (λ (a : Answer Bytes). output_after a out) accepted);
+      output = c.write_collision.ensures ∙ stored_there 0 r out (omega arith) ∙ sym (ap (λ (a : Answer Bytes). output_after a out) accepted);
     }
