@@ -1,5 +1,4 @@
 mod Digits
-mod Held
 mod Naming
 mod Runs
 mod Shown

@@ -1,5 +1,5 @@
 -- Bytes that are repeated. Assumes nothing.
-use Rattle.std.proofs.Common.{◌≡◌, ℕ, zero, suc, ◌+◌, List, [], ◌++◌, sym, ap, ◌∙◌, append_assoc, append-nil, add-one}
+use Rattle.std.proofs.Common.{◌≡◌, ℕ, zero, suc, ◌+◌, List, ◌++◌, sym, ap, ◌∙◌, append_assoc, append-nil, add-one}
 use Rattle.relog.specs.Arguments.{copies}
 
 around : (n : ℕ) (bs : List ℕ) → bs ++ copies n bs ≡ copies n bs ++ bs
