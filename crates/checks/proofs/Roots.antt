@@ -1,5 +1,5 @@
 -- What the bytes of a proof or a link that was read rebuild, and what the digest of an entry tells of it. Assumes nothing.
-use Rattle.std.proofs.Common.{◌≡◌, ℕ, ◌*◌, ◌/◌, ◌≤◌, Bool, true, false, cond, ◌&&◌, leb, List, length, Some, None, Ok, Err, sym, refl, ap, ◌∙◌, ap₂}
+use Rattle.std.proofs.Common.{◌≡◌, ℕ, ◌*◌, ◌/◌, ◌≤◌, Bool, true, false, cond, ◌&&◌, leb, length, Some, None, Ok, Err, sym, refl, ap, ◌∙◌}
 use Rattle.std.specs.Str.{bytes_eq}
 use Rattle.hash.specs.Hash.{Hashing, cut}
 use Rattle.hash.specs.Collisions.{Bytes}

@@ -1,5 +1,5 @@
 -- What the checks of proofs, links and collisions answer. Assumes nothing.
-use Rattle.std.specs.Prelude.{ℕ, Bool, false, not, ◌&&◌, length, ◌==◌, nat_le}
+use Rattle.std.specs.Prelude.{ℕ, Bool, not, ◌&&◌, length, ◌==◌, nat_le}
 use Rattle.std.specs.Str.{bytes_eq}
 use Rattle.hash.specs.Hash.{Hashing}
 use Rattle.hash.specs.Collisions.{Bytes, Input, same_input}

@@ -1,6 +1,6 @@
 -- What is known of two papers of one kind that were accepted. Assumes nothing.
-use Rattle.std.proofs.Common.{◌≡◌, ℕ, ◌/◌, ◌≤◌, Bool, true, false, cond, ◌&&◌, eqb, leb, List, length, Some, None, Ok, Err, Option, sym, refl, ap, ◌∙◌, subst, ap₂}
-use Rattle.std.proofs.lemmas.Bool.{leb-true, le-leb, eqb-true}
+use Rattle.std.proofs.Common.{◌≡◌, ℕ, ◌/◌, ◌≤◌, Bool, true, cond, ◌&&◌, eqb, leb, length, None, Ok, Err, Option, sym, refl, ap, ◌∙◌, subst, ap₂}
+use Rattle.std.proofs.lemmas.Bool.{leb-true, eqb-true}
 use Rattle.hash.specs.Hash.{Hashing, cut}
 use Rattle.hash.specs.Collisions.{Bytes, Input}
 use Rattle.tree.specs.Entries.{longest_entry}

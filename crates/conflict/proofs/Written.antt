@@ -1,5 +1,5 @@
 -- What a conflict call writes passes the check of collisions, whatever the call was given. Assumes nothing.
-use Rattle.std.proofs.Common.{◌≡◌, not, ◌&&◌, leb, length, Ok, arith}
+use Rattle.std.proofs.Common.{◌≡◌, not, ◌&&◌, leb, length, arith}
 use Rattle.std.proofs.lemmas.Bool.{leb-true}
 use Rattle.std.proofs.lemmas.Slice.Eq.{bytes_eq-Decides}
 use Rattle.std.specs.Str.{bytes_eq}

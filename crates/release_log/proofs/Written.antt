@@ -1,8 +1,6 @@
 -- What the log's answers are where every check is passed but perhaps the last, and how a record is put together in an output.
 -- Assumes nothing.
-use Rattle.std.proofs.Common.{◌≡◌, ℕ, ◌+◌, ◌-◌, ◌*◌, ◌<◌, ◌≤◌, min, Bool, true, false, cond, ◌&&◌, leb, List, [], ◌∷◌, ◌++◌, length, take, drop, Some, None, Ok, Err, sym, refl, ap, ◌∙◌, append_assoc, append-nil, arith, length-append, length-drop, le-leb}
-use borrow.Author.Tests.{lt-leb}
-use Rattle.std.proofs.lemmas.Bool.{leb-true, leb-false}
+use Rattle.std.proofs.Common.{◌≡◌, ℕ, ◌+◌, ◌-◌, ◌*◌, ◌≤◌, Bool, true, false, cond, ◌&&◌, leb, List, [], ◌++◌, length, take, drop, Some, None, sym, refl, ap, ◌∙◌, append_assoc, append-nil, arith, length-append, length-drop, le-leb}
 use Rattle.std.proofs.lemmas.Bool.Decides.{nat_tests}
 use borrow.Rule.Slice.PartMut.{put_mid}
 use Rattle.std.proofs.lemmas.List.{take_at, drop_at, drop-drop, drop_all, take_rest}
@@ -20,15 +18,14 @@ use Rattle.tree.proofs.Widths.{digests_path, digests_sub, length_joined}
 use Rattle.tree.proofs.Lengths.{length_path}
 use Rattle.tree.proofs.Linking.{length_link}
 use Rattle.roots.specs.Roots.{in_range, root_between, range_root}
-use Rattle.refusal.specs.Refusals.{Answer, must, ◌>>◌}
-use Rattle.refusal.specs.declared.Refusal.{Refusal}
-use Rattle.refusal.specs.declared.Refusal.TheVariants.{MadeOverLeaves, ImpossibleRequest, TooFewCells, OutputShort}
+use Rattle.refusal.specs.Refusals.{must, ◌>>◌}
+use Rattle.refusal.specs.declared.Refusal.TheVariants.{MadeOverLeaves, ImpossibleRequest, TooFewCells}
 use Rattle.paths.specs.Payloads.{fits}
 use Rattle.record.specs.Frames.{framed, frame_of}
-use Rattle.record.specs.Records.{Head, Proof, Link, head, proof, link, spelled, flat}
-use Rattle.refusal.proofs.Doing.{not_both, none_some, some_same, through, must_last, and_true}
+use Rattle.record.specs.Records.{Head, head, proof, link, spelled, flat}
+use Rattle.refusal.proofs.Doing.{none_some, some_same, through, and_true}
 use Rattle.record.proofs.Framing.{length_framed}
-use Rattle.release_log.specs.Buffers.{enough, fitting, length_of, output_after}
+use Rattle.release_log.specs.Buffers.{enough, fitting}
 use Rattle.release_log.specs.Logs.{LogState, head_over, proof_over, link_over, head_answer}
 
 -- a header and then a payload written behind it are the record at the front

@@ -1,4 +1,4 @@
-use Rattle.std.proofs.Common.{◌≡◌, ℕ, ◌≤◌, Bool, true, leb, length, sym, ap, ◌∙◌}
+use Rattle.std.proofs.Common.{ℕ, ◌≤◌, Bool, leb, length, sym, ap, ◌∙◌}
 use Rattle.hash.specs.Hash.{from_zeros}
 use Rattle.refusal.specs.Refusals.{must}
 use Rattle.refusal.specs.declared.Refusal.TheVariants.{TooFewCells, OtherNumbers, WrongRoot}

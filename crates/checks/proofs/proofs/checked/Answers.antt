@@ -1,12 +1,12 @@
-use Rattle.std.proofs.Common.{◌≡◌, ℕ, ◌≤◌, Bool, true, eqb, leb, length, Ok, Err, sym, ap, ◌∙◌, ap₂}
+use Rattle.std.proofs.Common.{ℕ, ◌≤◌, Bool, eqb, leb, length, Err, sym, ap, ◌∙◌}
 use Rattle.std.specs.Str.{bytes_eq}
 use Rattle.std.proofs.lemmas.Result.{err_from_is_err_and}
-use Rattle.hash.specs.Hash.{Hashing, from_zeros}
+use Rattle.hash.specs.Hash.{from_zeros}
 use Rattle.hash.specs.Collisions.{Bytes}
 use Rattle.tree.specs.Digests.{rebuilt}
 use Rattle.refusal.specs.Refusals.{must}
 use Rattle.refusal.specs.declared.Refusal.TheVariants.{TooFewCells, TooLong, OtherNumbers, WrongRoot}
-use Rattle.refusal.proofs.Doing.{must_last, through, bound, halted}
+use Rattle.refusal.proofs.Doing.{must_last, through, bound}
 use Rattle.release_log.proofs.Fitting.{leb_from}
 use Rattle.record.specs.Views.{proof_of, digests_in}
 use Rattle.checks.proofs.Roots.{stopped, leaf_ok, leaf_err, path_root_is}

@@ -1,4 +1,4 @@
-use Rattle.std.proofs.Common.{◌≡◌, ℕ, List, Some, sym, ap, ◌∙◌}
+use Rattle.std.proofs.Common.{ℕ, List, Some, sym, ap, ◌∙◌}
 use Rattle.cipher.specs.Blocks.{block_bytes}
 use Rattle.hash.specs.Hash.{from_zeros}
 use Rattle.conflict.proofs.Positions.{input_there, input_gone}

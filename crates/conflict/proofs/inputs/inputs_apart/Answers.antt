@@ -1,4 +1,4 @@
-use Rattle.std.proofs.Common.{◌≡◌, sym, ◌∙◌, arith}
+use Rattle.std.proofs.Common.{sym, ◌∙◌, arith}
 use Rattle.hash.specs.Hash.{from_zeros}
 use Rattle.conflict.proofs.Positions.{last_part}
 use Rattle.conflict.proofs.inputs.inputs_apart.Goals as goal

@@ -1,13 +1,13 @@
-use Rattle.std.proofs.Common.{◌≡◌, ℕ, ◌≤◌, Bool, not, length, Ok, Err, sym, ap, ◌∙◌, subst, arith}
+use Rattle.std.proofs.Common.{◌≡◌, ℕ, ◌≤◌, Bool, not, length, Err, sym, ap, ◌∙◌, subst, arith}
 use Rattle.std.proofs.lemmas.Result.{err_from_is_err_and}
 use Rattle.hash.specs.Hash.{from_zeros}
 use Rattle.hash.specs.Collisions.{Bytes}
 use Rattle.refusal.specs.Refusals.{Answer, must, ◌>>◌}
 use Rattle.refusal.specs.declared.Refusal.TheVariants.{EqualPapers}
 use Rattle.refusal.proofs.Doing.{through, bound, halted}
-use Rattle.release_log.specs.Buffers.{fitting, length_of, output_after}
-use Rattle.record.specs.Records.{Link, collision, spelled}
-use Rattle.record.specs.Views.{link_of, input_of}
+use Rattle.release_log.specs.Buffers.{length_of, output_after}
+use Rattle.record.specs.Records.{Link}
+use Rattle.record.specs.Views.{link_of}
 use Rattle.conflict.specs.Conflicts.{pair_for, two_links, links_conflict, conflict_links_answer}
 use Rattle.conflict.specs.Pairs.{links_pair}
 use Rattle.conflict.specs.Two.{two_links_of}

@@ -1,4 +1,4 @@
-use Rattle.std.proofs.Common.{◌≡◌, length, None, ◌∙◌}
+use Rattle.std.proofs.Common.{length, None, ◌∙◌}
 use Rattle.hash.specs.Hash.{from_zeros}
 use Rattle.paths.specs.Parts.{apart_of}
 use Rattle.conflict.proofs.Paired.{links_paired, links_unpaired}

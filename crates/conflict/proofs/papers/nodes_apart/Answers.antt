@@ -1,5 +1,4 @@
 use Rattle.std.proofs.Common.{◌≡◌, ℕ, ◌+◌, ◌-◌, List, ◌∷◌, ◌++◌, length, take, replicate, ap, ◌∙◌, ap₂, arith, length-append}
-use Rattle.cipher.specs.Bytes.{stored}
 use Rattle.cipher.proofs.Pieces.{stored_there, written_front}
 use Rattle.hash.specs.Hash.{from_zeros}
 use Rattle.hash.specs.Collisions.{inputs_apart}

@@ -1,4 +1,4 @@
-use Rattle.std.proofs.Common.{◌≡◌, ℕ, ◌≤◌, Bool, cond, not, leb, length, Some, None, Option, sym, ap, ◌∙◌}
+use Rattle.std.proofs.Common.{ℕ, not, length, ap, ◌∙◌}
 use Rattle.std.proofs.lemmas.Bool.{leb-true}
 use Rattle.hash.specs.Hash.{from_zeros}
 use Rattle.hash.specs.Collisions.{Bytes}

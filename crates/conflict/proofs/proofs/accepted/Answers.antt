@@ -1,8 +1,8 @@
-use Rattle.std.proofs.Common.{◌≡◌, ℕ, ◌≤◌, Bool, true, ◌&&◌, eqb, leb, length, Ok, Err, sym, ap, ◌∙◌, arith}
+use Rattle.std.proofs.Common.{◌≡◌, ℕ, ◌≤◌, Bool, true, ◌&&◌, eqb, leb, length, Err, sym, ap, ◌∙◌, arith}
 use Rattle.std.specs.Str.{bytes_eq}
 use Rattle.std.specs.Result.{result_map_both}
 use Rattle.std.proofs.lemmas.Result.{err_from_is_err_and}
-use Rattle.hash.specs.Hash.{Hashing, from_zeros}
+use Rattle.hash.specs.Hash.{from_zeros}
 use Rattle.hash.specs.Collisions.{Bytes}
 use Rattle.tree.specs.Digests.{rebuilt}
 use Rattle.refusal.specs.Refusals.{must}

@@ -1,12 +1,11 @@
-use Rattle.std.proofs.Common.{◌≡◌, ℕ, ◌≤◌, not, length, Ok, Err, sym, ap, ◌∙◌, arith}
+use Rattle.std.proofs.Common.{◌≡◌, ℕ, ◌≤◌, not, length, sym, ap, ◌∙◌, arith}
 use Rattle.hash.specs.Hash.{from_zeros}
 use Rattle.hash.specs.Collisions.{Bytes}
 use Rattle.refusal.specs.Refusals.{Answer}
 use Rattle.refusal.specs.declared.Refusal.TheVariants.{EqualPapers}
 use Rattle.refusal.proofs.Doing.{through, bound}
-use Rattle.release_log.specs.Buffers.{fitting, length_of, output_after}
-use Rattle.record.specs.Records.{collision, spelled}
-use Rattle.record.specs.Views.{proof_of, input_of}
+use Rattle.release_log.specs.Buffers.{length_of, output_after}
+use Rattle.record.specs.Views.{proof_of}
 use Rattle.conflict.specs.Conflicts.{pair_for, proofs_conflict, conflict_proofs_answer}
 use Rattle.conflict.proofs.Holding.{proofs_hold, proofs_pair_holds}
 use Rattle.conflict.proofs.proofs.found.Goals as goal

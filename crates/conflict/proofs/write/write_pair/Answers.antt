@@ -1,6 +1,5 @@
 use Rattle.std.proofs.Common.{◌≡◌, ℕ, ◌<◌, ◌≤◌, length, Ok, Err, sym, ap, ◌∙◌, arith}
 use Rattle.std.proofs.lemmas.Result.{err_from_is_err_and}
-use Rattle.cipher.specs.Bytes.{written, stored}
 use Rattle.cipher.proofs.Littles.{length_block}
 use Rattle.cipher.proofs.Pieces.{stored_there}
 use Rattle.hash.specs.Collisions.{Bytes, Input}

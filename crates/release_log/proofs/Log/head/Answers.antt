@@ -1,8 +1,8 @@
-use Rattle.std.proofs.Common.{◌≡◌, ℕ, ◌+◌, ◌<◌, ◌≤◌, true, List, length, Ok, Err, sym, ap, ◌∙◌, ap₂, arith}
+use Rattle.std.proofs.Common.{◌≡◌, ℕ, ◌+◌, ◌<◌, ◌≤◌, true, length, Ok, Err, sym, ap, ◌∙◌, arith}
 use Rattle.std.proofs.lemmas.Result.{err_from_is_err_and}
 use Rattle.cipher.specs.Bytes.{written, stored}
 use Rattle.cipher.proofs.Pieces.{stored_there}
-use Rattle.hash.specs.Hash.{Hashing, from_zeros}
+use Rattle.hash.specs.Hash.{from_zeros}
 use Rattle.hash.specs.Collisions.{Bytes}
 use Rattle.refusal.specs.Refusals.{Answer}
 use Rattle.refusal.specs.declared.Refusal.TheVariants.{MadeOverLeaves, TooFewCells, OutputShort}
