@@ -1,6 +1,6 @@
 -- The digits of bytes, and which text is made of such. Assumes nothing.
 use Rattle.std.proofs.Common.{◌≡◌, ℕ, zero, suc, ◌+◌, ◌*◌, ◌/◌, ◌%◌, ◌<◌, List, [], ◌∷◌, ◌++◌, map, length, get_or, take, sym, refl, ap, ◌∙◌, subst, append_assoc, arith}
-use Rattle.std.specs.List.{AllByRecursion as All}
+use Rattle.std.specs.List.{AllByRecursion}
 use Rattle.std.specs.Char.{digit_char, digit_value, to_ascii_lowercase}
 use Rattle.std.proofs.lemmas.List.{flat_map_more, map_more, get_or-map, length-map}
 use Rattle.std.proofs.lemmas.Bool.Decides.{nat_tests}
@@ -43,7 +43,7 @@ length_hex : (bs : List ℕ) → length (hex bs) ≡ 2 * length bs
 length_hex [] = refl
 length_hex (b ∷ bs) = omega (arith, length_hex bs)
 
-digits_hex : (bs : List ℕ) → All (λ b. b < 256) bs → (k : ℕ) → k < length (hex bs) → digit_value (get_or (hex bs) k 0) < 16
+digits_hex : (bs : List ℕ) → AllByRecursion (λ b. b < 256) bs → (k : ℕ) → k < length (hex bs) → digit_value (get_or (hex bs) k 0) < 16
 digits_hex [] h k l = absurd (omega arith)
 digits_hex (b ∷ bs) h zero l = value_char (b / 16) (omega arith)
 digits_hex (b ∷ bs) h (suc zero) l = value_char (b % 16) (omega arith)
@@ -54,7 +54,7 @@ pub none_if_odd : (text bs : List ℕ) (n : ℕ) → n ≡ length text / 2 → (
 none_if_odd text bs n half odd e = odd (omega (arith, length_hex bs, ap length e, length-map text to_ascii_lowercase))
 
 -- a text that is the hexadecimal of bytes has nothing but digits
-pub digit_there : (text bs : List ℕ) (k : ℕ) → k < length text → All (λ b. b < 256) bs → hex bs ≡ map to_ascii_lowercase text → digit_value (get_or text k 0) < 16
+pub digit_there : (text bs : List ℕ) (k : ℕ) → k < length text → AllByRecursion (λ b. b < 256) bs → hex bs ≡ map to_ascii_lowercase text → digit_value (get_or text k 0) < 16
 digit_there text bs k l h e =
     let here : get_or (hex bs) k 0 ≡ to_ascii_lowercase (get_or text k 0) = ap (λ (t : List ℕ). get_or t k 0) e ∙ get_or-map to_ascii_lowercase text k 0 0 l in
     subst (λ (d : ℕ). d < 16) (ap digit_value here ∙ value_lower (get_or text k 0)) (digits_hex bs h k (omega (arith, ap length e, length-map text to_ascii_lowercase)))

@@ -2,7 +2,7 @@
 ghost use Rattle.std.specs.Prelude.{◌≡◌, ℕ, ◌+◌, ◌*◌, ◌<◌, List, map, IfOk, Some, MatchOption, ◌≢◌};
 ghost use Rattle.std.specs.Option.{SomeIff};
 ghost use Rattle.std.specs.Char.{digit_char, digit_value, to_ascii_lowercase};
-ghost use Rattle.std.specs.List.{AllByRecursion as All};
+ghost use Rattle.std.specs.List.{AllByRecursion};
 ghost use Rattle.relog.specs.Hex.{hex};
 
 use std::alloc::{AllocError, Global};
@@ -31,7 +31,7 @@ fn pair_value(high: u8, low: u8) -> Option<u8>
 
 // The bytes whose digits the text is, whatever the case of its letters, or `None` where there are none.
 pub fn decode(heap: Global, text: &str) -> Result<Option<Vec<u8>>, AllocError>
-    ensures { IfOk result (λ o. MatchOption o ((bs : List ℕ) → All (λ b. b < 256) bs → hex bs ≢ map to_ascii_lowercase text.now) (λ v. hex v.items ≡ map to_ascii_lowercase text.now)) }
+    ensures { IfOk result (λ o. MatchOption o ((bs : List ℕ) → AllByRecursion (λ b. b < 256) bs → hex bs ≢ map to_ascii_lowercase text.now) (λ v. hex v.items ≡ map to_ascii_lowercase text.now)) }
 {
     let digits = text.as_bytes();
     let count = digits.len() / 2;
