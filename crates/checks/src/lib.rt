@@ -1,4 +1,4 @@
-// Checks of the papers of a log, for whoever holds them: proofs, links, and collisions of the compression.
+// Checks of proofs, links and collisions, for whoever holds them.
 #![tactic(auto)]
 
 pub mod accept;

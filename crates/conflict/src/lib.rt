@@ -1,4 +1,4 @@
-// Two papers of a log that contradict each other, and the collision of the compression behind them.
+// Two messages, proofs or links that contradict each other, and the collision of the compression behind them.
 #![tactic(auto)]
 
 mod bytes;
