@@ -1,6 +1,7 @@
 #!/usr/bin/env python3
 """Gives the definitions and lemmas of this repository the spelling that today's Rattle asks for, and two crates names that no library of
-the kit has. Run once, at the top of the repository, right after the kit's port.py:
+the kit has. Run once, at the top of the repository, right after the kit's port.py (docs/PORT.md), and never again: some old names of
+lemmas are names of definitions now.
 
     python3 tools/respell.py
 

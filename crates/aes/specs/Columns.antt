@@ -10,7 +10,7 @@ use Rattle.aes.specs.declared.columns.Columns.{Columns}
 abbrev pub state_of : Columns → List ℕ
 state_of s = little 4 s.a ++ (little 4 s.b ++ (little 4 s.c ++ little 4 s.d))
 
--- a column after sub_bytes and shift-rows: each row comes from another of the four columns
+-- a column after sub_bytes and shift_rows: each row comes from another of the four columns
 abbrev pub shifted_column : ℕ → ℕ → ℕ → ℕ → List ℕ
 shifted_column a b c d = S (a % 256) ∷ S (b / 256 % 256) ∷ S (c / 65536 % 256) ∷ S (d / 16777216 % 256) ∷ []
 
