@@ -1,8 +1,9 @@
 -- Numbers as little-endian bytes, at any width. Assumes nothing.
-use Rattle.std.proofs.Common.{◌≡◌, ℕ, zero, suc, ◌+◌, ◌*◌, ◌/◌, ◌%◌, ◌^◌, ◌<◌, ◌≤◌, List, [], ◌∷◌, ◌++◌, length, get_or, take, drop, replicate, sym, refl, ap, ◌∙◌, arith, rules}
+use Rattle.std.proofs.Common.{◌≡◌, ℕ, zero, suc, ◌+◌, ◌*◌, ◌/◌, ◌%◌, ◌^◌, ◌<◌, ◌≤◌, List, [], ◌∷◌, ◌++◌, length, get_or, take, drop, replicate, sym, refl, ap, subst, ◌∙◌, arith, rules, length-drop}
 use lib.Bits.{bit_xor}
 use Rattle.std.proofs.lemmas.Nat.{xor_shr, xor_mod}
-use Rattle.std.proofs.lemmas.List.{drop_more}
+use Rattle.std.proofs.Math.Seq.{take-length}
+use Rattle.std.proofs.lemmas.List.{drop_more, get_or-take, get_or-drop, length-take-le, take-append-drop}
 use Rattle.cipher.specs.Bytes.{little, number, xors}
 use Rattle.cipher.specs.Blocks.{block_bytes}
 use Rattle.cipher.specs.declared.words.Block.{Block}
@@ -62,6 +63,28 @@ eight_at xs i h =
     let z : drop i xs ≡ drop (i + 0) xs = ap (λ n. drop n xs) (omega arith) in
     let y : get_or xs (i + 0) 0 ≡ get_or xs i 0 = ap (λ n. get_or xs n 0) (omega arith) in
     rw (z, s 0 (omega arith), s 1 (omega arith), s 2 (omega arith), s 3 (omega arith), s 4 (omega arith), s 5 (omega arith), s 6 (omega arith), s 7 (omega arith), y) refl
+
+-- eight bytes are those of their number, which is made as `from_le_bytes` makes it
+pub little_of_eight : (xs : List ℕ) (n : ℕ) → length xs ≡ 8 → ((i : ℕ) → i < 8 → get_or xs i 0 < 256) →
+    n ≡ get_or xs 0 0 + get_or xs 1 0 * 256 + get_or xs 2 0 * 65536 + get_or xs 3 0 * 16777216 + get_or xs 4 0 * 4294967296 + get_or xs 5 0 * 1099511627776 + get_or xs 6 0 * 281474976710656 + get_or xs 7 0 * 72057594037927936 →
+    little 8 n ≡ xs
+little_of_eight xs n l small e =
+    let eight : List ℕ = get_or xs 0 0 ∷ get_or xs 1 0 ∷ get_or xs 2 0 ∷ get_or xs 3 0 ∷ get_or xs 4 0 ∷ get_or xs 5 0 ∷ get_or xs 6 0 ∷ get_or xs 7 0 ∷ [] in
+    let is : n ≡ number eight = omega (arith, e) in
+    let fits : Small eight = (small 0 (omega arith), (small 1 (omega arith), (small 2 (omega arith), (small 3 (omega arith), (small 4 (omega arith), (small 5 (omega arith), (small 6 (omega arith), (small 7 (omega arith), tt)))))))) in
+    ap (little 8) is ∙ little_number eight fits ∙ sym (eight_at xs 0 (omega arith)) ∙ subst (λ k. take k xs ≡ xs) l (take-length xs)
+
+-- sixteen bytes are those of the numbers of their halves
+pub little_of_halves : (xs first last : List ℕ) (lo hi : ℕ) → length xs ≡ 16 → ((i : ℕ) → i < 16 → get_or xs i 0 < 256) → first ≡ take 8 xs → last ≡ drop 8 xs →
+    lo ≡ get_or first 0 0 + get_or first 1 0 * 256 + get_or first 2 0 * 65536 + get_or first 3 0 * 16777216 + get_or first 4 0 * 4294967296 + get_or first 5 0 * 1099511627776 + get_or first 6 0 * 281474976710656 + get_or first 7 0 * 72057594037927936 →
+    hi ≡ get_or last 0 0 + get_or last 1 0 * 256 + get_or last 2 0 * 65536 + get_or last 3 0 * 16777216 + get_or last 4 0 * 4294967296 + get_or last 5 0 * 1099511627776 + get_or last 6 0 * 281474976710656 + get_or last 7 0 * 72057594037927936 →
+    little 8 lo ++ little 8 hi ≡ xs
+little_of_halves xs first last lo hi l small p q e f =
+    let low : little 8 lo ≡ first =
+    little_of_eight first lo (ap length p ∙ length-take-le 8 xs (omega arith)) (λ i h. subst (λ b. b < 256) (sym (ap (λ ys. get_or ys i 0) p ∙ get_or-take 8 xs i 0 h)) (small i (omega arith))) e in
+    let high : little 8 hi ≡ last =
+    little_of_eight last hi (ap length q ∙ omega (arith, length-drop 8 xs)) (λ i h. subst (λ b. b < 256) (sym (ap (λ ys. get_or ys i 0) q ∙ get_or-drop 8 xs i 0)) (small (8 + i) (omega arith))) f in
+    rw (low, high, p, q) (take-append-drop 8 xs)
 
 pub xors_append : (xs ys us vs : List ℕ) → length xs ≡ length us → xors (xs ++ ys) (us ++ vs) ≡ xors xs us ++ xors ys vs
 xors_append [] ys [] vs e = refl

@@ -1,8 +1,8 @@
 -- Reading and writing at a place of a list. Assumes nothing.
-use Rattle.std.proofs.Common.{◌≡◌, ℕ, ◌+◌, ◌<◌, ◌≤◌, leb, List, ◌++◌, length, take, drop, Some, None, sym, ap, ◌∙◌, append_assoc, arith, length-append, le-leb}
+use Rattle.std.proofs.Common.{◌≡◌, ℕ, ◌+◌, ◌<◌, ◌≤◌, Bool, true, false, leb, List, ◌++◌, length, take, drop, Some, None, refl, sym, ap, ◌∙◌, append_assoc, arith, length-append, le-leb}
 use borrow.Author.Tests.{lt-leb}
 use Rattle.std.proofs.lemmas.List.{take_at, drop_at, drop-drop, length-take-le}
-use Rattle.std.proofs.lemmas.Bool.{cond-true, cond-false}
+use Rattle.std.proofs.lemmas.Bool.{cond-true, cond-false, leb-true, leb-false}
 use Rattle.cipher.specs.Bytes.{piece, written, stored}
 
 pub piece_there : (i w : ℕ) (xs : List ℕ) → i + w ≤ length xs → piece i w xs ≡ Some (take w (drop i xs))
@@ -10,6 +10,14 @@ piece_there i w xs h = cond-true (leb (i + w) (length xs)) _ _ (le-leb (i + w) (
 
 pub piece_short : (i w : ℕ) (xs : List ℕ) → length xs < i + w → piece i w xs ≡ None
 piece_short i w xs h = cond-false (leb (i + w) (length xs)) _ _ (lt-leb (i + w) (length xs) h)
+
+-- what is there
+pub piece_is : (i w : ℕ) (xs ys : List ℕ) → Some ys ≡ piece i w xs → (i + w ≤ length xs) × (ys ≡ take w (drop i xs))
+piece_is i w xs ys e = go (leb (i + w) (length xs)) refl
+  where
+    go : (t : Bool) → leb (i + w) (length xs) ≡ t → (i + w ≤ length xs) × (ys ≡ take w (drop i xs))
+    go true t = (leb-true (i + w) (length xs) t, let s : Some ys ≡ Some (take w (drop i xs)) = e ∙ piece_there i w xs (leb-true (i + w) (length xs) t) in cc)
+    go false t = let s : Some ys ≡ None = e ∙ piece_short i w xs (leb-false (i + w) (length xs) t) in cc
 
 pub stored_there : (i : ℕ) (new old : List ℕ) → i + length new ≤ length old → stored i new old ≡ written i new old
 stored_there i new old h = cond-true (leb (i + length new) (length old)) _ _ (le-leb (i + length new) (length old) h)

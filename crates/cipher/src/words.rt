@@ -1,14 +1,18 @@
 // Byte strings of a fixed length, kept as words.
-ghost use Rattle.std.specs.Prelude.{◌≡◌, ℕ, ◌+◌, ◌≤◌, List, length, take, drop, replicate};
+ghost use Rattle.std.specs.Prelude.{◌≡◌, ℕ, ◌≤◌, ◌==◌, List, length, replicate};
 ghost use Rattle.std.proofs.Math.Path.{refl};
 ghost use Rattle.std.specs.Option.{option_map};
 ghost use Rattle.std.specs.Str.{bytes_eq};
 ghost use Rattle.cipher.specs.Bytes.{little, xors, piece, written, stored};
 ghost use Rattle.cipher.specs.Blocks.{block_bytes};
 ghost use Rattle.std.proofs.Common.{rules};
+ghost use Rattle.std.specs.Cmp.Rules.{comparing};
+ghost use Rattle.std.specs.Ordering.{on};
+ghost use Rattle.std.specs.Cmp.Lexicographic.{pointwise};
 
-// A key, a chaining value, a digest: a byte string whose length its type fixes.
-pub trait Words: Copy {
+// A key, a chaining value, a digest: a byte string whose length its type fixes. Two are equal where their bytes are, and the
+// default is all zeros.
+pub trait Words: Copy + Eq + Default {
     // How many bytes there are.
     ghost width: { ℕ };
 
@@ -16,12 +20,6 @@ pub trait Words: Copy {
 
     fn size() -> usize
         ensures { result ≡ width };
-
-    fn same(self, other: Self) -> bool
-        ensures { result ≡ bytes_eq (bytes self) (bytes other) };
-
-    fn zero() -> Self
-        ensures { bytes result ≡ replicate width 0 };
 
     // The bytes from a place on, if they are all there.
     fn load(from: &[u8], at: usize) -> Option<Self>
@@ -36,10 +34,30 @@ pub trait Words: Copy {
     ghost least: { 1 ≤ width };
 
     ghost most: { width ≤ 32 };
+
+    ghost equals: { (x y : Self) → Self.eq x y ≡ bytes_eq (bytes x) (bytes y) };
+
+    ghost zeros: { (d : Self) → Self.is_default d → bytes d ≡ replicate width 0 };
+}
+
+// The `N` bytes from a place on, if they are all there.
+pub fn bytes_at<const N: usize>(from: &[u8], at: usize) -> Option<[u8; N]>
+    ensures { result ≡ piece at N from.now }
+{
+    from.get(at..)?.first_chunk().copied()
+}
+
+// Writes bytes from a place on, if there is room for all of them, and nothing otherwise.
+pub fn put(bytes: &[u8], into: &mut [u8], at: usize)
+    ensures { into.new ≡ stored at bytes.now into.old }
+{
+    if at <= into.len() && bytes.len() <= into.len() - at {
+        into[at..at + bytes.len()].copy_from_slice(bytes);
+    }
 }
 
 // Sixteen bytes: bytes 0 to 7 are `lo` and 8 to 15 are `hi`, each with its lowest byte first.
-#[derive(Clone, Copy)]
+#[derive(Clone, Copy, Default, Debug)]
 pub struct Block {
     pub lo: u64,
     pub hi: u64,
@@ -56,27 +74,19 @@ impl Block {
     }
 }
 
-fn load_word(from: &[u8], at: usize) -> u64
-    requires { at + 8 ≤ length from.now }
-    ensures { little 8 result ≡ take 8 (drop at from.now) }
-{
-    u64::from_le_bytes([
-        from[at],
-        from[at + 1],
-        from[at + 2],
-        from[at + 3],
-        from[at + 4],
-        from[at + 5],
-        from[at + 6],
-        from[at + 7],
-    ])
+// A derived equality would be of the words as numbers of any size, of which equal bytes do not make equal words.
+impl PartialEq for Block {
+    ghost eq = { on block_bytes (pointwise ◌==◌) };
+
+    ghost laws = { Prim.search (comparing, rules) };
+
+    fn eq(&self, other: &Block) -> bool {
+        self.lo == other.lo && self.hi == other.hi
+    }
 }
 
-fn store_word(w: u64, into: &mut [u8], at: usize)
-    requires { at + 8 ≤ length into.old }
-    ensures { into.new ≡ written at (little 8 w) into.old }
-{
-    into[at..at + 8].copy_from_slice(&w.to_le_bytes());
+impl Eq for Block {
+    ghost laws = { Prim.search (comparing, rules) };
 }
 
 impl Words for Block {
@@ -90,33 +100,26 @@ impl Words for Block {
 
     ghost most = { Prim.search rules };
 
+    ghost equals = { λ x y. refl };
+
+    ghost zeros = { unfold little in Prim.search rules };
+
     fn size() -> usize {
         16
     }
 
-    fn same(self, other: Block) -> bool {
-        self.lo == other.lo && self.hi == other.hi
-    }
-
-    fn zero() -> Block {
-        Block { lo: 0, hi: 0 }
-    }
-
     fn load(from: &[u8], at: usize) -> Option<Block> {
-        if from.len() < 16 || at > from.len() - 16 {
-            return None;
-        }
+        let bytes: [u8; 16] = bytes_at(from, at)?;
         Some(Block {
-            lo: load_word(from, at),
-            hi: load_word(from, at + 8),
+            lo: u64::from_le_bytes(*bytes.first_chunk()?),
+            hi: u64::from_le_bytes(*bytes.last_chunk()?),
         })
     }
 
     fn store(self, into: &mut [u8], at: usize) {
-        if into.len() < 16 || at > into.len() - 16 {
-            return;
-        }
-        store_word(self.lo, into, at);
-        store_word(self.hi, into, at + 8);
+        let mut bytes = [0; 16];
+        bytes[..8].copy_from_slice(&self.lo.to_le_bytes());
+        bytes[8..].copy_from_slice(&self.hi.to_le_bytes());
+        put(&bytes, into, at);
     }
 }
