@@ -1,9 +1,10 @@
 -- Words of 32 bits and their four bytes. Assumes nothing.
 use Rattle.std.specs.Prelude.{◌≡◌, ℕ, zero, suc, ◌+◌, ◌*◌, ◌/◌, ◌%◌, ◌^◌, ◌<◌, ◌≤◌, List, [], ◌∷◌, ◌++◌, length, take, drop, bit_or, bit_xor, slice_index, slice_index_or, refl}
-use Rattle.std.proofs.Common.{sym, ap, ◌∙◌, append_assoc, zero-add, suc-add, mul_assoc, mul_comm, add-mul, div-add-mod', mod-lt, mul-lt-mul_of_pos_right, arith, shr-shr, take-add}
+use Rattle.std.proofs.Common.{sym, ap, subst, ◌∙◌, append_assoc, zero-add, suc-add, mul_assoc, mul_comm, add-mul, div-add-mod', mod-lt, mul-lt-mul_of_pos_right, arith, shr-shr, take-add}
 use Rattle.std.proofs.Math.Nat.{pow-succ', one-le-pow}
 use Rattle.std.proofs.Math.Arith.{digits_mod}
 use Rattle.std.proofs.lemmas.Nat.{div_below, or_shifted}
+use Rattle.std.proofs.Math.Seq.{take-length}
 use Rattle.std.proofs.lemmas.List.{drop_more, drop-drop, take_at, drop_at}
 use Rattle.cipher.specs.Bytes.{little, number, xors}
 use Rattle.cipher.proofs.Littles.{length_little, little_number, xors_little, xors_append}
@@ -31,6 +32,13 @@ four_at xs i h =
     let z : drop i xs ≡ drop (i + 0) xs = ap (λ n. drop n xs) (omega arith) in
     let y : slice_index_or xs (i + 0) 0 ≡ slice_index_or xs i 0 = ap (λ n. slice_index xs n) (omega arith) in
     rw (z, s 0 (omega arith), s 1 (omega arith), s 2 (omega arith), s 3 (omega arith), y) refl
+
+-- four bytes are those of their number
+pub four_whole : (xs : List ℕ) (w : ℕ) → length xs ≡ 4 → ((k : ℕ) → k < 4 → slice_index xs k < 256) →
+    w ≡ slice_index xs 0 + slice_index xs 1 * 256 + slice_index xs 2 * 65536 + slice_index xs 3 * 16777216 → little 4 w ≡ xs
+four_whole xs w l small e =
+    four_of _ _ _ _ w (small 0 (omega arith)) (small 1 (omega arith)) (small 2 (omega arith)) (small 3 (omega arith)) e
+    ∙ sym (four_at xs 0 (omega arith)) ∙ subst (λ k. take k xs ≡ xs) l (take-length xs)
 
 -- sixteen bytes of a list, four by four
 pub sixteen_at : (xs : List ℕ) (i : ℕ) → take 16 (drop i xs) ≡ take 4 (drop i xs) ++ (take 4 (drop (i + 4) xs) ++ (take 4 (drop (i + 8) xs) ++ take 4 (drop (i + 12) xs)))

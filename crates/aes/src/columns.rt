@@ -22,10 +22,10 @@ pub(crate) fn shifted(a: u32, b: u32, c: u32, d: u32) -> u32
     ensures { little 4 result ≡ shifted_column a b c d }
 {
     u32::from_le_bytes([
-        sub((a % 256) as u8),
-        sub((b / 256 % 256) as u8),
-        sub((c / 65536 % 256) as u8),
-        sub((d / 16777216 % 256) as u8),
+        sub(a.to_le_bytes()[0]),
+        sub(b.to_le_bytes()[1]),
+        sub(c.to_le_bytes()[2]),
+        sub(d.to_le_bytes()[3]),
     ])
 }
 
@@ -33,10 +33,10 @@ pub(crate) fn shifted(a: u32, b: u32, c: u32, d: u32) -> u32
 fn mixed(a: u32, b: u32, c: u32, d: u32) -> u32
     ensures { little 4 result ≡ mixed_column (shifted_column a b c d) }
 {
-    spread((a % 256) as u8)
-        ^ spread((b / 256 % 256) as u8).rotate_left(8)
-        ^ spread((c / 65536 % 256) as u8).rotate_left(16)
-        ^ spread((d / 16777216 % 256) as u8).rotate_left(24)
+    spread(a.to_le_bytes()[0])
+        ^ spread(b.to_le_bytes()[1]).rotate_left(8)
+        ^ spread(c.to_le_bytes()[2]).rotate_left(16)
+        ^ spread(d.to_le_bytes()[3]).rotate_left(24)
 }
 
 impl Columns {

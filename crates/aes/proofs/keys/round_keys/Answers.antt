@@ -1,8 +1,10 @@
-use Rattle.std.proofs.Common.{◌≡◌, ℕ, ◌+◌, ◌-◌, ◌*◌, ◌≤◌, List, length, take, drop, replicate, sym, ap, ◌∙◌, arith, take_all}
+use Rattle.std.proofs.Common.{◌≡◌, ℕ, ◌+◌, ◌-◌, ◌*◌, ◌≤◌, List, bit_xor, length, take, drop, replicate, sym, ap, ◌∙◌, arith, take_all}
 use Rattle.cipher.specs.Blocks.{block_bytes}
 use Rattle.cipher.proofs.Littles.{length_block}
 use Rattle.cipher.proofs.Pieces.{stored_there, written_front}
+use Rattle.cipher.specs.Bytes.{written}
 use Rattle.aes.specs.Aes.{expanded}
+use Rattle.aes.specs.Fours.{fours}
 use Rattle.aes.specs.Expansion.{expanded_none, grown, newest}
 use Rattle.aes.proofs.keys.round_keys.Goals as goal
 
@@ -21,7 +23,7 @@ loop-i-preserved c =
     let from : 4 ≤ i = omega arith in
     let a = grown 4 i key xs back st c.loop-i.last (omega arith) from room c.loop-i.invariant.0 c.loop-i.invariant.1 far c.temp.ensures in
     let b = newest 4 i key xs back st c.loop-i.last (omega arith) from room c.loop-i.invariant.0 c.loop-i.invariant.1 far c.temp.ensures in
-    let e = c.store_word.ensures in (
+    let e = c.put.ensures ∙ stored_there (4 * i) c.to_le_bytes.result xs (omega (arith, ap length c.to_le_bytes.ensures)) ∙ ap (λ (l : List ℕ). written (4 * i) l xs) (c.to_le_bytes.ensures ∙ sym (fours (bit_xor back st))) in (
       ap (λ (l : List ℕ). take (4 * (i + 1)) l) e ∙ a,
       b ∙ ap (λ (l : List ℕ). take 4 (drop (4 * (i + 1) - 4) l)) (sym e),
       omega arith,
