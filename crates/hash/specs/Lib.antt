@@ -1,3 +1,4 @@
 pub mod Hash
+pub mod Left
 pub mod Collisions
 pub mod Widths

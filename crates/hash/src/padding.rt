@@ -3,9 +3,39 @@ ghost use Rattle.std.specs.Prelude.{◌≡◌, ℕ, ◌-◌, ◌*◌, ◌/◌, �
 ghost use Rattle.std.specs.Option.{option_map};
 ghost use Rattle.std.specs.List.{slice_get};
 ghost use Rattle.cipher.specs.Blocks.{block_bytes};
+ghost use Rattle.std.specs.Iterator.{YieldsFirstBy, item_count};
 ghost use Rattle.hash.specs.Hash.{padded, blocks};
+ghost use Rattle.hash.specs.Left.{blocks_left};
 
 use cipher::words::{Block, Words};
+
+// The blocks of the padded message from one on, each made as it is asked for.
+#[derive(Drop)]
+pub struct PaddedBlocks<'a> {
+    message: &'a [u8],
+    at: usize,
+}
+
+// The blocks of the padded message, one after the other.
+pub fn padded_blocks(message: &[u8]) -> PaddedBlocks<'_>
+    ensures { blocks_left result ≡ blocks message.now }
+{
+    PaddedBlocks { message, at: 0 }
+}
+
+impl Iterator for PaddedBlocks<'_> {
+    type Item = Block;
+
+    ghost next_gives = { YieldsFirstBy block_bytes blocks_left };
+
+    ghost remaining = { item_count blocks_left };
+
+    fn next(&mut self) -> Option<Block> {
+        let block = padded_block(self.message, self.at)?;
+        self.at += 1;
+        Some(block)
+    }
+}
 
 // Block `k` of the padded message, if there are so many.
 pub fn padded_block(message: &[u8], k: usize) -> Option<Block>

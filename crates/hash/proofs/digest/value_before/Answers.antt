@@ -1,21 +1,18 @@
-use Rattle.std.proofs.Common.{ℕ, List, sym, ap, ◌∙◌, arith}
+use Rattle.std.proofs.Common.{◌≡◌, map, take, ap, ◌∙◌}
+use Rattle.std.proofs.lemmas.Iterator.{YieldsList-from_take}
+use Rattle.std.proofs.lemmas.Iterator.Consumers.{YieldsList-from_first}
 use Rattle.cipher.specs.Blocks.{block_bytes}
-use Rattle.hash.specs.Hash.{blocks, from_zeros}
-use Rattle.hash.proofs.Values.{past, value_more, value_past}
+use Rattle.hash.specs.Hash.{Hashing, blocks, chain, from_zeros}
+use Rattle.hash.specs.Left.{blocks_left}
+use Rattle.hash.proofs.Runs.{items_taken}
 use Rattle.hash.proofs.digest.value_before.Goals as goal
 
-pub returns-in_default : goal.returns-in_default
-returns-in_default g c =
-    let F = from_zeros g.C.Value.Words.width g.C.Compression.f in
-    let m : List ℕ = c.args.message.now in
-    let i : ℕ = c.loop-i.i in
-    c.loop-i.invariant ∙ value_past F m i c.args.k (past (blocks m) i (sym c.in_default.ensures)) (omega arith)
-
-pub loop-i-preserved : goal.loop-i-preserved
-loop-i-preserved g c =
-    let F = from_zeros g.C.Value.Words.width g.C.Compression.f in
-    let m : List ℕ = c.args.message.now in
-    let i : ℕ = c.loop-i.i in
-    c.compress-h.ensures
-    ∙ ap (λ (h : List ℕ). g.C.Compression.f h (block_bytes c.in-Some.block)) c.loop-i.invariant
-    ∙ sym (value_more F m i (block_bytes c.in-Some.block) (sym c.in-Some.ensures))
+pub returns : goal.returns
+returns g c =
+    let F : Hashing = from_zeros g.C.Value.Words.width g.C.Compression.f in
+    let bs = blocks c.args.message.now in
+    let k = c.args.k in
+    let e = c.after_blocks.ensures in
+    let left : blocks_left c.take.result.iter ≡ bs = ap blocks_left c.take.ensures.source ∙ c.padded_blocks.ensures in
+    let all : map block_bytes e.0 ≡ take k bs = items_taken e.0 e.1 (YieldsList-from_take k (YieldsList-from_first block_bytes blocks_left bs left) c.take.ensures.count) in
+    e.2 ∙ ap (chain F F.start) all
