@@ -51,7 +51,7 @@ pub fn proven<C: Compression>(
         proof.path,
         spans,
     ) {
-        Some(root) => right(root.same(head.root()), input, place),
+        Some(root) => right(root == head.root(), input, place),
         None => right(false, input, place),
     }
 }
@@ -77,7 +77,7 @@ pub fn linked<C: Compression>(
         spans,
     ) {
         Some(roots) => right(
-            roots.old.same(old.root()) && roots.new.same(new.root()),
+            roots.old == old.root() && roots.new == new.root(),
             input,
             place,
         ),

@@ -1,13 +1,11 @@
 // Check of a collision.
 ghost use Rattle.std.specs.Prelude.{◌≡◌, ℕ, List};
 ghost use Rattle.hash.specs.Hash.{from_zeros};
-ghost use Rattle.hash.specs.Collisions.{same_input};
 ghost use Rattle.record.specs.Views.{input_of};
 ghost use Rattle.checks.specs.Checks.{collide, check_collision_answer};
 
-use cipher::words::Words;
 use hash::compress::Compression;
-use record::collisions::{Collision, Input};
+use record::collisions::Collision;
 use record::single::read_collision;
 use refusal::Refusal;
 
@@ -27,13 +25,5 @@ fn collides<C: Compression>(c: &C, pair: Collision<C::Value>) -> bool
 {
     let first = pair.first;
     let second = pair.second;
-    !same_input(first, second)
-        && c.compress(first.h, first.m)
-            .same(c.compress(second.h, second.m))
-}
-
-fn same_input<D: Words>(x: Input<D>, y: Input<D>) -> bool
-    ensures { result ≡ same_input (input_of D.Words.bytes x) (input_of D.Words.bytes y) }
-{
-    x.h.same(y.h) && x.m.same(y.m)
+    first != second && c.compress(first.h, first.m) == c.compress(second.h, second.m)
 }

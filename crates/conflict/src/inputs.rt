@@ -78,7 +78,7 @@ fn same_from<C: Compression>(c: &C, x: &[u8], y: &[u8]) -> usize
         let Some(b) = padded_block(y, k) else {
             return from;
         };
-        if !first.same(second) {
+        if first != second {
             from = k + 1;
         }
         first = c.compress(first, a);
@@ -92,7 +92,7 @@ fn same_block(x: &[u8], y: &[u8], k: usize) -> bool
     ensures { (a b : List ℕ) → slice_get (blocks x.now) k ≡ Some a → slice_get (blocks y.now) k ≡ Some b → result ≡ bytes_eq a b }
 {
     match (padded_block(x, k), padded_block(y, k)) {
-        (Some(a), Some(b)) => a.same(b),
+        (Some(a), Some(b)) => a == b,
         _ => false,
     }
 }

@@ -43,7 +43,7 @@ fn found<C: Compression>(c: &C, x: &[u8], y: &[u8], out: &mut [u8]) -> Result<us
     if same_bytes(x, y) {
         return Err(Refusal::EqualMessages);
     }
-    if !digest(c, x).same(digest(c, y)) {
+    if digest(c, x) != digest(c, y) {
         return Err(Refusal::UnequalDigests);
     }
     let Some(pair) = inputs_apart(c, x, y) else {

@@ -58,7 +58,7 @@ fn over<D: Copy>(low: bool, digest: D, beside: D) -> Node<D>
 fn same_node<D: Words>(a: Node<D>, b: Node<D>) -> bool
     ensures { result ≡ bytes_eq (node_of D.Words.bytes a) (node_of D.Words.bytes b) }
 {
-    a.left.same(b.left) && a.right.same(b.right)
+    a.left == b.left && a.right == b.right
 }
 
 // Both ways one node further up.

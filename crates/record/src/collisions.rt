@@ -5,14 +5,14 @@ use cipher::words::Block;
 pub(crate) const BLOCK_LEN: usize = 16;
 
 // One input of the compression: a chaining value and a block.
-#[derive(Clone, Copy)]
+#[derive(Clone, Copy, PartialEq, Eq, Debug)]
 pub struct Input<D> {
     pub h: D,
     pub m: Block,
 }
 
 // Two inputs that are said to have one output.
-#[derive(Clone, Copy)]
+#[derive(Clone, Copy, PartialEq, Eq, Debug)]
 pub struct Collision<D> {
     pub first: Input<D>,
     pub second: Input<D>,

@@ -123,7 +123,7 @@ fn play_under<'a, C: Compression + Drop>(
         StoreKind::Table => {
             let mut cells = Vec::with_capacity(heap, asked.request.size)?;
             for _ in 0..asked.request.size {
-                cells.push(C::Value::zero())?;
+                cells.push(C::Value::default())?;
             }
             println!(rt; "{line}: ok")?;
             let store = Table::new(cells.as_mut_slice());

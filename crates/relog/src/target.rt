@@ -236,7 +236,7 @@ fn subtrees<C: Compression>(heap: Global, n: usize) -> Result<Vec<Subtree<C::Val
     for _ in 0..n {
         cells.push(Subtree {
             height: 0,
-            digest: C::Value::zero(),
+            digest: C::Value::default(),
         })?;
     }
     Ok(cells)

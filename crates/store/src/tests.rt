@@ -2,7 +2,7 @@
 use crate::Store;
 use crate::image::Image;
 use crate::table::Table;
-use cipher::words::{Block, Words};
+use cipher::words::Block;
 use refusal::Refusal;
 use tree::leaves::Leaves;
 
@@ -12,14 +12,6 @@ const ONE: Block = Block {
 };
 
 const TWO: Block = Block { lo: 4, hi: 5 };
-
-// Whether a leaf is there and is this digest.
-fn is(leaf: Option<Block>, digest: Block) -> bool {
-    match leaf {
-        Some(found) => found.same(digest),
-        None => false,
-    }
-}
 
 #[test]
 fn a_table_with_no_cells(rt: HostRuntime) {
@@ -35,12 +27,12 @@ fn a_table_with_one_cell(rt: HostRuntime) {
     let mut cells = [TWO];
     let mut table = Table::new(&mut cells);
     assert_eq!(rt; table.room(), 1);
-    assert!(rt; table.leaf(0).is_none());
+    assert_eq!(rt; table.leaf(0), None);
     assert_eq!(rt; table.append(ONE), Ok(0));
     assert_eq!(rt; table.room(), 0);
     assert_eq!(rt; table.append(TWO), Err(Refusal::StoreFull));
-    assert!(rt; is(table.leaf(0), ONE));
-    assert!(rt; table.leaf(1).is_none());
+    assert_eq!(rt; table.leaf(0), Some(ONE));
+    assert_eq!(rt; table.leaf(1), None);
 }
 
 fn room_of(bytes: &mut [u8]) -> usize {
@@ -67,7 +59,7 @@ fn an_image_with_two_records(rt: HostRuntime) {
     assert_eq!(rt; image.append(TWO), Ok(1));
     assert_eq!(rt; image.append(ONE), Err(Refusal::StoreFull));
     assert_eq!(rt; image.used().len(), 40);
-    assert!(rt; is(image.leaf(0), ONE));
-    assert!(rt; is(image.leaf(1), TWO));
-    assert!(rt; image.leaf(2).is_none());
+    assert_eq!(rt; image.leaf(0), Some(ONE));
+    assert_eq!(rt; image.leaf(1), Some(TWO));
+    assert_eq!(rt; image.leaf(2), None);
 }

@@ -1,7 +1,7 @@
 use Rattle.std.proofs.Common.{◌≡◌, ℕ, ◌+◌, ◌<◌, length, get_or, take, drop, sym, ap, subst, ◌∙◌, arith, length-drop}
 use Rattle.std.proofs.lemmas.List.{get_or-take, get_or-drop, length-take-le}
 use Rattle.cipher.proofs.Pieces.{piece_is}
-use Rattle.aes.specs.Fours.{four_of, four_whole}
+use Rattle.aes.specs.Fours.{four_whole}
 use Rattle.aes.proofs.words.load_word.Goals as goal
 
 pub returns : goal.returns

@@ -1,5 +1,5 @@
-use Rattle.std.proofs.Common.{◌≡◌, refl, ap, ◌∙◌}
-use Rattle.cipher.specs.Bytes.{little, stored}
+use Rattle.std.proofs.Common.{refl, ap, ◌∙◌}
+use Rattle.cipher.specs.Bytes.{stored}
 use Rattle.cipher.proofs.Littles.{little_eight}
 use Rattle.cipher.proofs.words.BlockWords.store.Goals as goal
 

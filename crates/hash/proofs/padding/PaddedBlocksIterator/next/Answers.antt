@@ -1,4 +1,4 @@
-use Rattle.std.proofs.Common.{ℕ, ◌≡◌, ◌+◌, ◌<◌, List, [], length, drop, sym, ap, ◌∙◌, arith, rules, length-drop}
+use Rattle.std.proofs.Common.{ℕ, ◌≡◌, ◌+◌, ◌<◌, List, [], length, drop, sym, arith, rules, length-drop}
 use Rattle.cipher.specs.Blocks.{block_bytes}
 use Rattle.hash.specs.Hash.{blocks}
 use Rattle.hash.proofs.Padded.{nth_there, nth_gone, length_blocks}
