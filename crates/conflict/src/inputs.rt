@@ -11,7 +11,7 @@ ghost use Rattle.conflict.specs.Inputs.{inputs_of, both};
 use cipher::words::Words;
 use hash::compress::Compression;
 use hash::digest::value_before;
-use hash::padding::padded_block;
+use hash::padding::{padded_block, padded_blocks};
 use record::collisions::{Collision, Input};
 
 // The first pair of inputs of the compression, counted from the end, that differs in the hashes of two messages.
@@ -37,13 +37,9 @@ fn last_block(message: &[u8]) -> usize
 fn input_at<C: Compression>(c: &C, message: &[u8], k: usize) -> Option<Input<C::Value>>
     ensures { option_map (input_of C.Value.Words.bytes) result ≡ slice_get (inputs_of (from_zeros C.Value.Words.width C.Compression.f) message.now) k }
 {
-    match padded_block(message, k) {
-        Some(m) => Some(Input {
-            h: value_before(c, message, k),
-            m,
-        }),
-        None => None,
-    }
+    let m = padded_block(message, k)?;
+    let h = value_before(c, message, k);
+    Some(Input { h, m })
 }
 
 // The inputs at block `j` of one message and at block `k` of the other.
@@ -71,13 +67,7 @@ fn same_from<C: Compression>(c: &C, x: &[u8], y: &[u8]) -> usize
     let mut first = value_before(c, x, 0);
     let mut second = value_before(c, y, 0);
     let mut from = 0;
-    for k in 0..last_block(x) + 1 {
-        let Some(a) = padded_block(x, k) else {
-            return from;
-        };
-        let Some(b) = padded_block(y, k) else {
-            return from;
-        };
+    for (k, (a, b)) in padded_blocks(x).zip(padded_blocks(y)).enumerate() {
         if first != second {
             from = k + 1;
         }

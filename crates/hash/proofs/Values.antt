@@ -1,5 +1,5 @@
 -- Chaining values and inputs of the compression, one block after the other. Assumes nothing.
-use Rattle.std.proofs.Common.{◌≡◌, ℕ, zero, suc, ◌+◌, ◌≤◌, List, [], ◌∷◌, ◌++◌, length, take, Some, None, sym, refl, ap, ◌∙◌, arith, length-drop}
+use Rattle.std.proofs.Common.{◌≡◌, ℕ, zero, suc, ◌+◌, ◌≤◌, List, [], ◌∷◌, ◌++◌, length, take, drop, Some, None, sym, refl, ap, ◌∙◌, arith, length-drop}
 use Rattle.std.proofs.lemmas.List.{take_all}
 use Rattle.std.specs.List.{slice_get}
 use Rattle.hash.specs.Hash.{Hashing, chain, blocks, value_before}
@@ -33,3 +33,13 @@ value_more f m k b e = ap (chain f f.start) (take_nth (blocks m) k b e) ∙ chai
 -- past the last block the value stays
 pub value_past : (f : Hashing) (m : Bytes) (i k : ℕ) → length (blocks m) ≤ i → i ≤ k → value_before f m i ≡ value_before f m k
 value_past f m i k h l = ap (chain f f.start) (take_all i (blocks m) h ∙ sym (take_all k (blocks m) (omega arith)))
+
+-- the front of what is left after k elements is element k
+pub front_nth : {X : Type 0} (xs : List X) (k : ℕ) (x : X) (ys : List X) → drop k xs ≡ x ∷ ys → (slice_get xs k ≡ Some x) × (ys ≡ drop (k + 1) xs)
+front_nth [] zero x ys e = absurd (let z : ◌≡◌ {A = ℕ} 0 1 = cc in omega arith)
+front_nth [] (suc k) x ys e = absurd (let z : ◌≡◌ {A = ℕ} 0 1 = cc in omega arith)
+front_nth (z ∷ xs) zero x ys e = (let p : z ≡ x = cc in ap Some p, let p : xs ≡ ys = cc in sym p)
+front_nth (z ∷ xs) (suc k) x ys e =
+    let rest = front_nth xs k x ys e in
+    let s : suc k + 1 ≡ suc (k + 1) = omega arith in
+    (rest.0, rest.1 ∙ sym (ap (λ (n : ℕ). drop n (z ∷ xs)) s))
