@@ -5,6 +5,7 @@ use Rattle.hash.specs.Hash.{Hashing}
 use Rattle.hash.specs.Collisions.{Bytes}
 use Rattle.tree.specs.Entries.{longest_entry}
 use Rattle.roots.specs.Roots.{cells_needed}
+use Rattle.refusal.specs.Refusals.{site}
 use Rattle.refusal.specs.declared.Refusal.TheVariants.{OtherNumbers, WrongRoot, TooLong, TooFewCells}
 use Rattle.refusal.proofs.Doing.{bind_ok, must_ok, must_last, ok_same}
 use Rattle.record.specs.Records.{Head, Proof, Link, read_one, head_in, proof_in, link_in}
@@ -26,11 +27,11 @@ module _ (c : Hashing) where
       let m₃ = must_ok (leb (length e) longest_entry) (TooLong 2) _ tt m₂.2 in
       let m₄ = bind_ok (read_one c.width 3 proof_in d) _ tt m₃.1 in
       let k = m₄.0 in
-      let m₅ = must_ok (eqb k.size h.size) (OtherNumbers 3 0) _ tt m₄.2 in (
+      let m₅ = must_ok (eqb k.size h.size) (OtherNumbers (site 3 0)) _ tt m₄.2 in (
         h,
         m₂.1,
         subst (λ (z : Proof). Checked e h z) (ok_same (sym m₄.1 ∙ r))
-            (record { small = leb-true (length e) longest_entry m₃.0; sizes = eqb-true k.size h.size m₅.0; passes = must_last (proves c h e k) (WrongRoot 3 0) m₅.1 }),
+            (record { small = leb-true (length e) longest_entry m₃.0; sizes = eqb-true k.size h.size m₅.0; passes = must_last (proves c h e k) (WrongRoot (site 3 0)) m₅.1 }),
       )
 
   -- what an accepted link met
@@ -48,11 +49,11 @@ module _ (c : Hashing) where
       let h = m₃.0 in
       let m₄ = bind_ok (read_one c.width 3 link_in d) _ tt m₃.2 in
       let k = m₄.0 in
-      let m₅ = must_ok (between g h k) (OtherNumbers 3 0) _ tt m₄.2 in (
+      let m₅ = must_ok (between g h k) (OtherNumbers (site 3 0)) _ tt m₄.2 in (
         g,
         h,
         m₂.1,
         m₃.1,
         subst (λ (z : Link). Led g h z) (ok_same (sym m₄.1 ∙ r))
-            (record { meets = m₅.0; passes = must_last (leads c g h k) (WrongRoot 3 0) m₅.1 }),
+            (record { meets = m₅.0; passes = must_last (leads c g h k) (WrongRoot (site 3 0)) m₅.1 }),
       )

@@ -10,6 +10,7 @@ use Rattle.tree.specs.Entries.{longest_entry}
 use Rattle.tree.specs.Spans.{largest, in_tree, in_link}
 use Rattle.tree.proofs.Widths.{length_root}
 use Rattle.roots.specs.Roots.{cells_needed}
+use Rattle.refusal.specs.Refusals.{site}
 use Rattle.refusal.specs.declared.Refusal.TheVariants.{MadeOverLeaves, ImpossibleRequest, OtherNumbers, WrongRoot, TooLong, TooFewCells, OutputShort}
 use Rattle.refusal.proofs.Doing.{must_ok, ok_same, through, bound, passed, and_true, and_left, and_right}
 use Rattle.record.specs.Records.{head, proof, link, spelled, head_in, proof_in, link_in, read_one, WellFormed}
@@ -78,8 +79,8 @@ module _ (c : Hashing) (sized : Sized c) where
       ∙ bound _ (head_back ls d 1 n h a.0 a.1 a.2 a.3)
       ∙ through (TooLong 2) _ (le-leb (length e) longest_entry small)
       ∙ bound _ read
-      ∙ through (OtherNumbers 3 0) _ (eq-eqb n n refl)
-      ∙ passed (WrongRoot 3 0) (so_proves c (head_over c ls n) e (proof_over c ls i n) refl k)
+      ∙ through (OtherNumbers (site 3 0)) _ (eq-eqb n n refl)
+      ∙ passed (WrongRoot (site 3 0)) (so_proves c (head_over c ls n) e (proof_over c ls i n) refl k)
 
   pub links_pass : LinksPass c
   links_pass l cells out cells' out' cells'' out'' m n g h d wide q r s given enough =
@@ -95,5 +96,5 @@ module _ (c : Hashing) (sized : Sized c) where
       ∙ bound _ (head_back ls wide 1 m g a.0 a.1 a.2 a.3)
       ∙ bound _ (head_back ls wide 2 n h b.0 b.1 b.2 b.3)
       ∙ bound _ read
-      ∙ through (OtherNumbers 3 0) _ (and_true (eq-eqb m m refl) (eq-eqb n n refl))
-      ∙ passed (WrongRoot 3 0) (so_leads c (head_over c ls m) (head_over c ls n) (link_over c ls m n) k)
+      ∙ through (OtherNumbers (site 3 0)) _ (and_true (eq-eqb m m refl) (eq-eqb n n refl))
+      ∙ passed (WrongRoot (site 3 0)) (so_leads c (head_over c ls m) (head_over c ls n) (link_over c ls m n) k)

@@ -5,7 +5,7 @@ use Rattle.hash.specs.Hash.{Hashing}
 use Rattle.hash.specs.Collisions.{Bytes, Input, same_input}
 use Rattle.tree.specs.Digests.{leaf_digest, rebuilt, rebuilt_old, rebuilt_new}
 use Rattle.tree.specs.Entries.{longest_entry}
-use Rattle.refusal.specs.Refusals.{Answer, must, ◌>>=◌, ◌>>◌}
+use Rattle.refusal.specs.Refusals.{site, Answer, must, ◌>>=◌, ◌>>◌}
 use Rattle.refusal.specs.declared.Refusal.TheVariants.{OtherNumbers, WrongRoot, NoCollision, TooLong}
 use Rattle.record.specs.Records.{Head, Proof, Link, read_one, head_in, proof_in, link_in, collision_in}
 use Rattle.release_log.specs.Buffers.{enough}
@@ -40,8 +40,8 @@ module _ (c : Hashing) where
     h ← read_one c.width 1 head_in head
     entry_fits 2 entry
     p ← read_one c.width 3 proof_in proof
-    must (p.size == h.size) (OtherNumbers 3 0)
-    must (proves h entry p) (WrongRoot 3 0)
+    must (p.size == h.size) (OtherNumbers (site 3 0))
+    must (proves h entry p) (WrongRoot (site 3 0))
 
   -- check link: an old head, a new head, a link
   abbrev pub check_link_answer : ℕ → Bytes → Bytes → Bytes → Answer (Unit {0})
@@ -50,8 +50,8 @@ module _ (c : Hashing) where
     g ← read_one c.width 1 head_in old
     h ← read_one c.width 2 head_in new
     l ← read_one c.width 3 link_in link
-    must (between g h l) (OtherNumbers 3 0)
-    must (leads g h l) (WrongRoot 3 0)
+    must (between g h l) (OtherNumbers (site 3 0))
+    must (leads g h l) (WrongRoot (site 3 0))
 
   -- check collision: a collision
   abbrev pub check_collision_answer : Bytes → Answer (Unit {0})

@@ -1,9 +1,9 @@
-// Whether a proof or a link that was read is accepted; `input` and `place` are its own, for a refusal.
+// Whether a proof or a link that was read is accepted; `site` is its own, for a refusal.
 ghost use Rattle.std.specs.Prelude.{◌≡◌, ℕ, ◌&&◌, List, length, ◌==◌};
 ghost use Rattle.hash.specs.Hash.{from_zeros};
 ghost use Rattle.paths.specs.Rebuilds.{path_root, link_roots};
 ghost use Rattle.refusal.specs.Refusals.{must};
-ghost use Rattle.refusal.specs.declared.Refusal.TheVariants.{OtherNumbers, WrongRoot};
+ghost use Rattle.refusal.specs.declared.Refusal.TheVariants.{WrongRoot};
 ghost use Rattle.checks.specs.Rebuilding.{root_is, roots_are};
 
 use cipher::words::Words;
@@ -11,18 +11,8 @@ use hash::compress::Compression;
 use paths::rebuild::{rebuild_link, rebuild_path};
 use record::heads::Head;
 use record::records::{Link, Proof};
-use refusal::Refusal;
+use refusal::{Refusal, Site, must};
 use tree::spans::Span;
-
-// Sizes or an index that have to be the same as others.
-pub fn same_numbers(same: bool, input: u8, place: usize) -> Result<(), Refusal>
-    ensures { result ≡ must same (OtherNumbers input place) }
-{
-    if !same {
-        return Err(Refusal::OtherNumbers { input, place });
-    }
-    Ok(())
-}
 
 // Whether a link's sizes are those of two heads.
 pub fn joins<D: Copy>(old: Head<D>, new: Head<D>, link: Link<'_>) -> bool
@@ -37,23 +27,23 @@ pub fn proven<C: Compression>(
     head: Head<C::Value>,
     leaf: C::Value,
     proof: Proof<'_>,
-    input: u8,
-    place: usize,
+    site: Site,
     spans: &mut [Span],
 ) -> Result<(), Refusal>
-    ensures { result ≡ must (root_is (path_root (from_zeros C.Value.Words.width C.Compression.f) proof.entry.index proof.entry.size (length spans.old) (C.Value.Words.bytes leaf) proof.entry.path.now) (C.Value.Words.bytes head.root)) (WrongRoot input place) }
+    ensures { result ≡ must (root_is (path_root (from_zeros C.Value.Words.width C.Compression.f) proof.entry.index proof.entry.size (length spans.old) (C.Value.Words.bytes leaf) proof.entry.path.now) (C.Value.Words.bytes head.root)) (WrongRoot site) }
 {
-    match rebuild_path(
+    let root = rebuild_path(
         c,
         proof.index as usize,
         proof.size as usize,
         leaf,
         proof.path,
         spans,
-    ) {
-        Some(root) => right(root == head.root(), input, place),
-        None => right(false, input, place),
-    }
+    );
+    must(
+        root == Some(head.root()),
+        Refusal::WrongRoot(site),
+    )
 }
 
 // The link has to rebuild the roots of both heads.
@@ -62,34 +52,21 @@ pub fn linked<C: Compression>(
     old: Head<C::Value>,
     new: Head<C::Value>,
     link: Link<'_>,
-    input: u8,
-    place: usize,
+    site: Site,
     spans: &mut [Span],
 ) -> Result<(), Refusal>
-    ensures { result ≡ must (roots_are (link_roots (from_zeros C.Value.Words.width C.Compression.f) link.entry.old link.entry.new (length spans.old) (C.Value.Words.bytes old.root) link.entry.digests.now) (C.Value.Words.bytes old.root) (C.Value.Words.bytes new.root)) (WrongRoot input place) }
+    ensures { result ≡ must (roots_are (link_roots (from_zeros C.Value.Words.width C.Compression.f) link.entry.old link.entry.new (length spans.old) (C.Value.Words.bytes old.root) link.entry.digests.now) (C.Value.Words.bytes old.root) (C.Value.Words.bytes new.root)) (WrongRoot site) }
 {
-    match rebuild_link(
+    let roots = rebuild_link(
         c,
         link.old as usize,
         link.new as usize,
         old.root(),
         link.digests,
         spans,
-    ) {
-        Some(roots) => right(
-            roots.old == old.root() && roots.new == new.root(),
-            input,
-            place,
-        ),
-        None => right(false, input, place),
-    }
-}
-
-fn right(same: bool, input: u8, place: usize) -> Result<(), Refusal>
-    ensures { result ≡ must same (WrongRoot input place) }
-{
-    if !same {
-        return Err(Refusal::WrongRoot { input, place });
-    }
-    Ok(())
+    );
+    must(
+        roots.is_some_and(|roots| roots.old == old.root() && roots.new == new.root()),
+        Refusal::WrongRoot(site),
+    )
 }

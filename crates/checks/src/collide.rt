@@ -7,17 +7,14 @@ ghost use Rattle.checks.specs.Checks.{collide, check_collision_answer};
 use hash::compress::Compression;
 use record::collisions::Collision;
 use record::single::read_collision;
-use refusal::Refusal;
+use refusal::{Refusal, must};
 
 // That two inputs of the compression differ and have one output.
 pub fn check_collision<C: Compression>(c: &C, collision: &[u8]) -> Result<(), Refusal>
     ensures { result ≡ check_collision_answer (from_zeros C.Value.Words.width C.Compression.f) collision.now }
 {
     let pair = read_collision::<C::Value>(1, collision)?;
-    if !collides(c, pair) {
-        return Err(Refusal::NoCollision { input: 1 });
-    }
-    Ok(())
+    must(collides(c, pair), Refusal::NoCollision { input: 1 })
 }
 
 fn collides<C: Compression>(c: &C, pair: Collision<C::Value>) -> bool

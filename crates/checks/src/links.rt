@@ -4,12 +4,12 @@ ghost use Rattle.hash.specs.Hash.{from_zeros};
 ghost use Rattle.checks.specs.Checks.{check_link_answer};
 ghost use Rattle.checks.specs.Laws.{LinksPass};
 
-use crate::accept::{joins, linked, same_numbers};
+use crate::accept::{joins, linked};
 use crate::laws::links_pass;
 use cipher::words::Words;
 use hash::compress::Compression;
 use record::single::{read_head, read_link};
-use refusal::Refusal;
+use refusal::{Refusal, Site, must};
 use release_log::buffers::enough;
 use tree::spans::Span;
 
@@ -41,6 +41,7 @@ fn checked<C: Compression>(
     let old = read_head::<C::Value>(1, old)?;
     let new = read_head::<C::Value>(2, new)?;
     let link = read_link::<C::Value>(3, link)?;
-    same_numbers(joins(old, new, link), 3, 0)?;
-    linked(c, old, new, link, 3, 0, spans)
+    let site = Site::start_of(3);
+    must(joins(old, new, link), Refusal::OtherNumbers(site))?;
+    linked(c, old, new, link, site, spans)
 }

@@ -4,12 +4,12 @@ ghost use Rattle.hash.specs.Hash.{from_zeros};
 ghost use Rattle.checks.specs.Checks.{check_proof_answer};
 ghost use Rattle.checks.specs.Laws.{ProofsPass};
 
-use crate::accept::{proven, same_numbers};
+use crate::accept::proven;
 use crate::laws::proofs_pass;
 use cipher::words::Words;
 use hash::compress::Compression;
 use record::single::{read_head, read_proof};
-use refusal::Refusal;
+use refusal::{Refusal, Site, must};
 use release_log::buffers::enough;
 use tree::digests::leaf;
 use tree::spans::Span;
@@ -42,6 +42,7 @@ fn checked<C: Compression>(
     let head = read_head::<C::Value>(1, head)?;
     let leaf = leaf(c, 2, entry)?;
     let proof = read_proof::<C::Value>(3, proof)?;
-    same_numbers(proof.size == head.size(), 3, 0)?;
-    proven(c, head, leaf, proof, 3, 0, spans)
+    let site = Site::start_of(3);
+    must(proof.size == head.size(), Refusal::OtherNumbers(site))?;
+    proven(c, head, leaf, proof, site, spans)
 }

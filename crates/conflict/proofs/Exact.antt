@@ -9,7 +9,7 @@ use Rattle.hash.specs.Widths.{Sized}
 use Rattle.hash.proofs.Apart.{hash_apart}
 use Rattle.tree.specs.Entries.{longest_entry}
 use Rattle.roots.specs.Roots.{cells_needed}
-use Rattle.refusal.specs.Refusals.{Answer, must, ◌>>◌}
+use Rattle.refusal.specs.Refusals.{site, Answer, must, ◌>>◌}
 use Rattle.refusal.specs.declared.Refusal.TheVariants.{OtherNumbers, WrongRoot, TooLong, TooFewCells, EqualMessages, UnequalDigests, EqualPapers}
 use Rattle.refusal.proofs.Doing.{ok_same, through, bound, and_true, and_left, and_right}
 use Rattle.record.specs.Records.{Head, head, proof, link, spelled, head_in, proof_in, link_in}
@@ -64,10 +64,10 @@ module _ (c : Hashing) (sized : Sized c) where
       ∙ bound _ r
       ∙ through (TooLong 4) _ (le-leb (length e') longest_entry k'.small)
       ∙ bound _ (any_input w 3 5 proof_in d' p' r')
-      ∙ through (OtherNumbers 3 0) _ (eq-eqb p.size h.size k.2.sizes)
-      ∙ through (OtherNumbers 5 0) _ (and_true (eq-eqb p'.size h.size k'.sizes) (eq-eqb p'.index p.index (sym same)))
-      ∙ through (WrongRoot 3 0) _ k.2.passes
-      ∙ through (WrongRoot 5 0) _ k'.passes) in
+      ∙ through (OtherNumbers (site 3 0)) _ (eq-eqb p.size h.size k.2.sizes)
+      ∙ through (OtherNumbers (site 5 0)) _ (and_true (eq-eqb p'.size h.size k'.sizes) (eq-eqb p'.index p.index (sym same)))
+      ∙ through (WrongRoot (site 3 0)) _ k.2.passes
+      ∙ through (WrongRoot (site 5 0)) _ k'.passes) in
       subst (λ (a : Answer Bytes). Exactly c a EqualPapers ((e ≡ e') × (d ≡ d'))) (sym run)
       (exactly c out EqualPapers ((e ≡ e') × (d ≡ d')) ((e ≡ e') × (p.path ≡ p'.path)) (conflict_of c ms ms') t fits (both_same e e' d d') (not_same e e' d d')
       (λ z. (z.0, pr.1 all ∙ (λ i. spelled (proof (record { index = same i; size = sizes i; path = z.1 i }))) ∙ sym (pr'.1 all')))
@@ -99,10 +99,10 @@ module _ (c : Hashing) (sized : Sized c) where
       ∙ bound _ (any_input w 1 3 head_in b' g' j.2)
       ∙ bound _ (any_input w 3 4 link_in d' l' r')
       ∙ bound _ (any_input w 2 5 head_in n h k.3)
-      ∙ through (OtherNumbers 2 0) _ k.4.meets
-      ∙ through (OtherNumbers 4 0) _ (and_true k'.meets (eq-eqb l'.old l.old (sym same)))
-      ∙ through (WrongRoot 2 0) _ k.4.passes
-      ∙ through (WrongRoot 4 0) _ k'.passes) in
+      ∙ through (OtherNumbers (site 2 0)) _ k.4.meets
+      ∙ through (OtherNumbers (site 4 0)) _ (and_true k'.meets (eq-eqb l'.old l.old (sym same)))
+      ∙ through (WrongRoot (site 2 0)) _ k.4.passes
+      ∙ through (WrongRoot (site 4 0)) _ k'.passes) in
       let heads : g.size ≡ g'.size = sym a.0 ∙ same ∙ a'.0 in
       let news : l.new ≡ l'.new = a.1 ∙ sym a'.1 in
       subst (λ (x : Answer Bytes). Exactly c x EqualPapers ((b ≡ b') × (d ≡ d'))) (sym run)

@@ -1,5 +1,6 @@
 -- What is known of two papers of one kind that were accepted. Assumes nothing.
 use Rattle.std.proofs.Common.{◌≡◌, ℕ, ◌/◌, ◌≤◌, Bool, true, cond, ◌&&◌, eqb, leb, length, None, Ok, Err, Option, sym, refl, ap, ◌∙◌, subst, ap₂}
+use Rattle.std.specs.Option.{ok_or}
 use Rattle.std.proofs.lemmas.Bool.{leb-true, eqb-true}
 use Rattle.hash.specs.Hash.{Hashing, cut}
 use Rattle.hash.specs.Collisions.{Bytes, Input}
@@ -8,7 +9,7 @@ use Rattle.tree.specs.Messages.{proof_messages, link_messages}
 use Rattle.tree.specs.Spans.{path_spans, link_spans}
 use Rattle.roots.specs.Roots.{cells_needed}
 use Rattle.paths.specs.Rebuilds.{path_reads, link_reads}
-use Rattle.refusal.specs.Refusals.{Answer, ◌>>=◌}
+use Rattle.refusal.specs.Refusals.{site, Answer, ◌>>=◌}
 use Rattle.refusal.specs.declared.Refusal.{Refusal}
 use Rattle.refusal.specs.declared.Refusal.TheVariants.{OtherNumbers, WrongRoot, TooLong, TooFewCells}
 use Rattle.refusal.proofs.Doing.{not_both, bind_ok, must_ok, ok_same, and_left, and_right}
@@ -47,6 +48,10 @@ pub record LinksHold (c : Hashing) (g g' h : Head) (l l' : Link) : Type 0 where
   pub passes : leads c g h l ≡ true
   pub passes' : leads c g' h l' ≡ true
 
+-- the refusal of a value that was missing
+pub none_err : {X : Type 0} {o : Option X} (r e : Refusal) → ◌≡◌ {A = Answer X} (Err e) (ok_or o r) → o ≡ None → e ≡ r
+none_err {X} r e v n = let z : ◌≡◌ {A = Answer X} (Err e) (Err r) = v ∙ ap (λ (o : Option X). ok_or o r) n in cc
+
 -- what follows from the value that was read
 from_bind : {X Y Z : Type 0} (a : Answer X) (g : X → Answer Y) (y : Y) → a >>= g ≡ Ok y → ((x : X) → a ≡ Ok x → g x ≡ Ok y → Z) → Z
 from_bind a g y e k = let b = bind_ok a g y e in k b.0 b.1 b.2
@@ -66,10 +71,10 @@ module _ (c : Hashing) (cells : ℕ) where
       let m₃ = must_ok (leb (length e') longest_entry) (TooLong 4) _ t q₂ in
       from_bind (read_one w 5 proof_in d') _ t m₃.1
       (λ p' ep' q₃.
-      let m₄ = must_ok (eqb p.size h.size) (OtherNumbers 3 0) _ t q₃ in
-      let m₅ = must_ok (eqb p'.size h.size && eqb p'.index p.index) (OtherNumbers 5 0) _ t m₄.1 in
-      let m₆ = must_ok (proves c h e p) (WrongRoot 3 0) _ t m₅.1 in
-      let m₇ = must_ok (proves c h e' p') (WrongRoot 5 0) _ t m₆.1 in (
+      let m₄ = must_ok (eqb p.size h.size) (OtherNumbers (site 3 0)) _ t q₃ in
+      let m₅ = must_ok (eqb p'.size h.size && eqb p'.index p.index) (OtherNumbers (site 5 0)) _ t m₄.1 in
+      let m₆ = must_ok (proves c h e p) (WrongRoot (site 3 0)) _ t m₅.1 in
+      let m₇ = must_ok (proves c h e' p') (WrongRoot (site 5 0)) _ t m₆.1 in (
         leb-true cells_needed cells m₁.0,
         (
           h,
@@ -98,10 +103,10 @@ module _ (c : Hashing) (cells : ℕ) where
       (λ g' eg' q₃. from_bind (read_one w 4 link_in d') _ t q₃
       (λ l' el' q₄. from_bind (read_one w 5 head_in n) _ t q₄
       (λ h eh q₅.
-      let m₂ = must_ok (between g h l) (OtherNumbers 2 0) _ t q₅ in
-      let m₃ = must_ok (between g' h l' && eqb l'.old l.old) (OtherNumbers 4 0) _ t m₂.1 in
-      let m₄ = must_ok (leads c g h l) (WrongRoot 2 0) _ t m₃.1 in
-      let m₅ = must_ok (leads c g' h l') (WrongRoot 4 0) _ t m₄.1 in (
+      let m₂ = must_ok (between g h l) (OtherNumbers (site 2 0)) _ t q₅ in
+      let m₃ = must_ok (between g' h l' && eqb l'.old l.old) (OtherNumbers (site 4 0)) _ t m₂.1 in
+      let m₄ = must_ok (leads c g h l) (WrongRoot (site 2 0)) _ t m₃.1 in
+      let m₅ = must_ok (leads c g' h l') (WrongRoot (site 4 0)) _ t m₄.1 in (
         leb-true cells_needed cells m₁.0,
         (
           h,

@@ -3,7 +3,7 @@ use Rattle.std.specs.Prelude.{ℕ, not, ◌&&◌, length, Ok, Option, ◌==◌, 
 use Rattle.std.specs.Str.{bytes_eq}
 use Rattle.hash.specs.Hash.{Hashing, hash_of, longest}
 use Rattle.hash.specs.Collisions.{Bytes, Input, inputs_apart}
-use Rattle.refusal.specs.Refusals.{Answer, must, given, ◌>>=◌, ◌>>◌}
+use Rattle.refusal.specs.Refusals.{site, Answer, must, given, ◌>>=◌, ◌>>◌}
 use Rattle.refusal.specs.declared.Refusal.{Refusal}
 use Rattle.refusal.specs.declared.Refusal.TheVariants.{OtherNumbers, WrongRoot, TooLong, EqualMessages, UnequalDigests, EqualPapers}
 use Rattle.record.specs.Records.{Head, Proof, Link, collision, spelled, read_one, head_in, proof_in, link_in}
@@ -37,10 +37,10 @@ module _ (c : Hashing) where
     p ← read_one c.width 3 proof_in proof
     entry_fits 4 entry'
     p' ← read_one c.width 5 proof_in proof'
-    must (p.size == h.size) (OtherNumbers 3 0)
-    must (p'.size == h.size && p'.index == p.index) (OtherNumbers 5 0)
-    must (proves c h entry p) (WrongRoot 3 0)
-    must (proves c h entry' p') (WrongRoot 5 0)
+    must (p.size == h.size) (OtherNumbers (site 3 0))
+    must (p'.size == h.size && p'.index == p.index) (OtherNumbers (site 5 0))
+    must (proves c h entry p) (WrongRoot (site 3 0))
+    must (proves c h entry' p') (WrongRoot (site 5 0))
     Ok (p, p')
 
   -- the messages of two such proofs part
@@ -63,10 +63,10 @@ module _ (c : Hashing) where
     g' ← read_one c.width 3 head_in old'
     l' ← read_one c.width 4 link_in link'
     h ← read_one c.width 5 head_in new
-    must (between g h l) (OtherNumbers 2 0)
-    must (between g' h l' && l'.old == l.old) (OtherNumbers 4 0)
-    must (leads c g h l) (WrongRoot 2 0)
-    must (leads c g' h l') (WrongRoot 4 0)
+    must (between g h l) (OtherNumbers (site 2 0))
+    must (between g' h l' && l'.old == l.old) (OtherNumbers (site 4 0))
+    must (leads c g h l) (WrongRoot (site 2 0))
+    must (leads c g' h l') (WrongRoot (site 4 0))
     Ok ((g, l), (g', l'))
 
   -- the messages of two such links part, the old root counting as part of the link

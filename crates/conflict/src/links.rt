@@ -14,13 +14,13 @@ use crate::laws::{links_exact, links_written};
 use crate::papers::links_apart;
 use crate::two::TwoLinks;
 use crate::write::write_pair;
-use checks::accept::{joins, linked, same_numbers};
+use checks::accept::{joins, linked};
 use cipher::words::Words;
 use hash::compress::Compression;
 use record::heads::Head;
 use record::records::Link;
 use record::single::{read_head, read_link};
-use refusal::Refusal;
+use refusal::{Refusal, Site, must};
 use release_log::buffers::enough;
 use tree::spans::Span;
 
@@ -60,12 +60,13 @@ fn found<C: Compression>(
     ensures output { out.new ≡ output_after (conflict_links_answer (from_zeros C.Value.Words.width C.Compression.f) (length spans.old) (length out.old) old.now link.now other_old.now other_link.now new.now) out.old }
 {
     let two = accepted(c, old, link, other_old, other_link, new, spans)?;
-    if both_same(old, other_old, link, other_link) {
-        return Err(Refusal::EqualPapers);
-    }
+    must(
+        !both_same(old, other_old, link, other_link),
+        Refusal::EqualPapers,
+    )?;
     let l = two.first;
     let k = two.second;
-    let Some(pair) = links_apart(
+    let pair = links_apart(
         c,
         l.old as usize,
         l.new as usize,
@@ -74,9 +75,8 @@ fn found<C: Compression>(
         two.other_old,
         k.digests,
         spans,
-    ) else {
-        return Err(Refusal::EqualPapers);
-    };
+    )
+    .ok_or(Refusal::EqualPapers)?;
     write_pair(pair, out)
 }
 
@@ -99,10 +99,13 @@ fn accepted<'a, 'b, C: Compression>(
     let k = read_head::<C::Value>(3, other_old)?;
     let second = read_link::<C::Value>(4, other_link)?;
     let h = read_head::<C::Value>(5, new)?;
-    same_numbers(joins(g, h, first), 2, 0)?;
-    same_numbers(joins_too(k, h, first, second), 4, 0)?;
-    linked(c, g, h, first, 2, 0, spans)?;
-    linked(c, k, h, second, 4, 0, spans)?;
+    must(joins(g, h, first), Refusal::OtherNumbers(Site::start_of(2)))?;
+    must(
+        joins_too(k, h, first, second),
+        Refusal::OtherNumbers(Site::start_of(4)),
+    )?;
+    linked(c, g, h, first, Site::start_of(2), spans)?;
+    linked(c, k, h, second, Site::start_of(4), spans)?;
     Ok(TwoLinks {
         old: g.root(),
         first,

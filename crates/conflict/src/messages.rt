@@ -1,8 +1,6 @@
 // Two messages of one digest.
-ghost use Rattle.std.specs.Prelude.{◌≡◌, ℕ, List, length, nat_le};
-ghost use Rattle.hash.specs.Hash.{from_zeros, longest};
-ghost use Rattle.refusal.specs.Refusals.{must};
-ghost use Rattle.refusal.specs.declared.Refusal.TheVariants.{TooLong};
+ghost use Rattle.std.specs.Prelude.{◌≡◌, ℕ, List, length};
+ghost use Rattle.hash.specs.Hash.{from_zeros};
 ghost use Rattle.release_log.specs.Buffers.{length_of, output_after};
 ghost use Rattle.conflict.specs.Conflicts.{conflict_messages_answer};
 ghost use Rattle.conflict.specs.Laws.{MessagesExact, MessagesWritten};
@@ -14,7 +12,7 @@ use crate::write::write_pair;
 use cipher::words::Words;
 use hash::compress::Compression;
 use hash::digest::{LONGEST, digest};
-use refusal::Refusal;
+use refusal::{Refusal, must};
 
 // Writes the collision behind two messages of one digest at the front of the output, and says how long it is. Equal messages
 // alone are refused as equal; what is written passes the check of collisions.
@@ -38,26 +36,10 @@ fn found<C: Compression>(c: &C, x: &[u8], y: &[u8], out: &mut [u8]) -> Result<us
     ensures answer { result ≡ length_of (conflict_messages_answer (from_zeros C.Value.Words.width C.Compression.f) (length out.old) x.now y.now) }
     ensures output { out.new ≡ output_after (conflict_messages_answer (from_zeros C.Value.Words.width C.Compression.f) (length out.old) x.now y.now) out.old }
 {
-    short(x, 1)?;
-    short(y, 2)?;
-    if same_bytes(x, y) {
-        return Err(Refusal::EqualMessages);
-    }
-    if digest(c, x) != digest(c, y) {
-        return Err(Refusal::UnequalDigests);
-    }
-    let Some(pair) = inputs_apart(c, x, y) else {
-        return Err(Refusal::EqualMessages);
-    };
+    must(x.len() <= LONGEST, Refusal::TooLong { input: 1 })?;
+    must(y.len() <= LONGEST, Refusal::TooLong { input: 2 })?;
+    must(!same_bytes(x, y), Refusal::EqualMessages)?;
+    must(digest(c, x) == digest(c, y), Refusal::UnequalDigests)?;
+    let pair = inputs_apart(c, x, y).ok_or(Refusal::EqualMessages)?;
     write_pair(pair, out)
-}
-
-// Input `input` may not be too long for a message.
-fn short(message: &[u8], input: u8) -> Result<(), Refusal>
-    ensures { result ≡ must (nat_le (length message.now) longest) (TooLong input) }
-{
-    if message.len() > LONGEST {
-        return Err(Refusal::TooLong { input });
-    }
-    Ok(())
 }

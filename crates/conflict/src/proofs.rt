@@ -14,12 +14,12 @@ use crate::laws::{proofs_exact, proofs_written};
 use crate::papers::proofs_apart;
 use crate::two::TwoProofs;
 use crate::write::write_pair;
-use checks::accept::{proven, same_numbers};
+use checks::accept::proven;
 use cipher::words::Words;
 use hash::compress::Compression;
 use record::records::Proof;
 use record::single::{read_head, read_proof};
-use refusal::Refusal;
+use refusal::{Refusal, Site, must};
 use release_log::buffers::enough;
 use tree::digests::leaf;
 use tree::spans::Span;
@@ -60,12 +60,13 @@ fn found<C: Compression>(
     ensures output { out.new ≡ output_after (conflict_proofs_answer (from_zeros C.Value.Words.width C.Compression.f) (length spans.old) (length out.old) head.now entry.now proof.now other_entry.now other_proof.now) out.old }
 {
     let two = accepted(c, head, entry, proof, other_entry, other_proof, spans)?;
-    if both_same(entry, other_entry, proof, other_proof) {
-        return Err(Refusal::EqualPapers);
-    }
+    must(
+        !both_same(entry, other_entry, proof, other_proof),
+        Refusal::EqualPapers,
+    )?;
     let p = two.first;
     let q = two.second;
-    let Some(pair) = proofs_apart(
+    let pair = proofs_apart(
         c,
         p.index as usize,
         p.size as usize,
@@ -74,9 +75,8 @@ fn found<C: Compression>(
         other_entry,
         q.path,
         spans,
-    ) else {
-        return Err(Refusal::EqualPapers);
-    };
+    )
+    .ok_or(Refusal::EqualPapers)?;
     write_pair(pair, out)
 }
 
@@ -99,10 +99,16 @@ fn accepted<'a, 'b, C: Compression>(
     let first = read_proof::<C::Value>(3, proof)?;
     let y = leaf(c, 4, other_entry)?;
     let second = read_proof::<C::Value>(5, other_proof)?;
-    same_numbers(first.size == h.size(), 3, 0)?;
-    same_numbers(same_leaf(first, second, h.size()), 5, 0)?;
-    proven(c, h, x, first, 3, 0, spans)?;
-    proven(c, h, y, second, 5, 0, spans)?;
+    must(
+        first.size == h.size(),
+        Refusal::OtherNumbers(Site::start_of(3)),
+    )?;
+    must(
+        same_leaf(first, second, h.size()),
+        Refusal::OtherNumbers(Site::start_of(5)),
+    )?;
+    proven(c, h, x, first, Site::start_of(3), spans)?;
+    proven(c, h, y, second, Site::start_of(5), spans)?;
     Ok(TwoProofs { first, second })
 }
 

@@ -3,7 +3,7 @@ use Rattle.std.proofs.Common.{◌≡◌, ℕ, ◌+◌, ◌≤◌, eqb, [], ◌++
 use Rattle.std.proofs.lemmas.List.{nil_from_length, drop_at, drop-drop}
 use Rattle.std.proofs.lemmas.Bool.{eqb-true}
 use Rattle.hash.specs.Collisions.{Bytes}
-use Rattle.refusal.specs.Refusals.{given}
+use Rattle.refusal.specs.Refusals.{site, given}
 use Rattle.refusal.specs.declared.Refusal.TheVariants.{CutShort, UnknownKind, ImpossibleLength, ImpossibleNumbers, UnwantedKind, BytesAfter}
 use Rattle.record.specs.Frames.{Frame, framed, unframed, AllBytes}
 use Rattle.record.specs.Records.{Record, frame_for, spelled, kinds, numbers_fit, read_at, read_one, WellFormed}
@@ -25,18 +25,18 @@ module _ (w : ℕ) where
 
   pub read_as : (i : ℕ) (bs : Bytes) (p : ℕ) (r : Record) (q : ℕ) → read_at w i bs p ≡ Ok (r, q) → ReadAs bs p r q
   read_as i bs p r q e =
-      let a = bind_ok (given (unframed (drop p bs)) (CutShort i p)) _ (r, q) e in
+      let a = bind_ok (given (unframed (drop p bs)) (CutShort (site i p))) _ (r, q) e in
       let fr = a.0.0 in
-      let b = bind_ok (given (kinds w fr.kind) (UnknownKind i p)) _ (r, q) a.2 in
+      let b = bind_ok (given (kinds w fr.kind) (UnknownKind (site i p))) _ (r, q) a.2 in
       let k = b.0 in
-      let c = must_ok (k.0 (length fr.payload)) (ImpossibleLength i p) _ (r, q) b.2 in
-      let d = must_ok (numbers_fit (k.1 fr.payload)) (ImpossibleNumbers i p) _ (r, q) c.1 in
+      let c = must_ok (k.0 (length fr.payload)) (ImpossibleLength (site i p)) _ (r, q) b.2 in
+      let d = must_ok (numbers_fit (k.1 fr.payload)) (ImpossibleNumbers (site i p)) _ (r, q) c.1 in
       let o : k.1 fr.payload ≡ r = ap (λ (z : Record × ℕ). z.0) (ok_same d.1) in
-      let s = sensible w fr.kind k (given_ok (kinds w fr.kind) (UnknownKind i p) k b.1) fr.payload c.0 in
+      let s = sensible w fr.kind k (given_ok (kinds w fr.kind) (UnknownKind (site i p)) k b.1) fr.payload c.0 in
       record {
         frame = fr;
         rest = a.0.1;
-        framed_so = given_ok (unframed (drop p bs)) (CutShort i p) a.0 a.1;
+        framed_so = given_ok (unframed (drop p bs)) (CutShort (site i p)) a.0 a.1;
         well = subst (λ (z : Record). WellFormed w z) o (s.0, d.0);
         next = sym (ap (λ (z : Record × ℕ). z.1) (ok_same d.1));
         spelling = λ all. sym (ap frame_for o) ∙ s.1 all;
@@ -48,11 +48,11 @@ module _ (w : ℕ) where
   one_read i wanted bs x e =
       let a = bind_ok (read_at w i bs 0) _ x e in
       let r = a.0.0 in
-      let b = bind_ok (given (wanted r) (UnwantedKind i 0)) _ x a.2 in
-      let c = must_ok (eqb a.0.1 (length bs)) (BytesAfter i 0) _ x b.2 in
+      let b = bind_ok (given (wanted r) (UnwantedKind (site i 0))) _ x a.2 in
+      let c = must_ok (eqb a.0.1 (length bs)) (BytesAfter (site i 0)) _ x b.2 in
       let k = read_as i bs 0 r a.0.1 a.1 in (
         r,
-        given_ok (wanted r) (UnwantedKind i 0) b.0 b.1 ∙ ap Some (ok_same c.1),
+        given_ok (wanted r) (UnwantedKind (site i 0)) b.0 b.1 ∙ ap Some (ok_same c.1),
         k.well,
         λ all. spelled_so r k (eqb-true a.0.1 (length bs) c.0) all (one_spelling bs all),
       )
@@ -69,32 +69,32 @@ module _ (w : ℕ) where
   -- the number of the input does not matter where a record is read
   any_at : (i j : ℕ) (bs : Bytes) (p : ℕ) (x : Record × ℕ) → read_at w i bs p ≡ Ok x → read_at w j bs p ≡ Ok x
   any_at i j bs p x e =
-      let a = bind_ok (given (unframed (drop p bs)) (CutShort i p)) _ x e in
-      let b = bind_ok (given (kinds w a.0.0.kind) (UnknownKind i p)) _ x a.2 in
-      let c = must_ok (b.0.0 (length a.0.0.payload)) (ImpossibleLength i p) _ x b.2 in
-      let d = must_ok (numbers_fit (b.0.1 a.0.0.payload)) (ImpossibleNumbers i p) _ x c.1 in
-      bound _ (ap (λ o. given o (CutShort j p)) (given_ok (unframed (drop p bs)) (CutShort i p) a.0 a.1))
-      ∙ bound _ (ap (λ o. given o (UnknownKind j p)) (given_ok (kinds w a.0.0.kind) (UnknownKind i p) b.0 b.1))
-      ∙ through (ImpossibleLength j p) _ c.0 ∙ through (ImpossibleNumbers j p) _ d.0 ∙ d.1
+      let a = bind_ok (given (unframed (drop p bs)) (CutShort (site i p))) _ x e in
+      let b = bind_ok (given (kinds w a.0.0.kind) (UnknownKind (site i p))) _ x a.2 in
+      let c = must_ok (b.0.0 (length a.0.0.payload)) (ImpossibleLength (site i p)) _ x b.2 in
+      let d = must_ok (numbers_fit (b.0.1 a.0.0.payload)) (ImpossibleNumbers (site i p)) _ x c.1 in
+      bound _ (ap (λ o. given o (CutShort (site j p))) (given_ok (unframed (drop p bs)) (CutShort (site i p)) a.0 a.1))
+      ∙ bound _ (ap (λ o. given o (UnknownKind (site j p))) (given_ok (kinds w a.0.0.kind) (UnknownKind (site i p)) b.0 b.1))
+      ∙ through (ImpossibleLength (site j p)) _ c.0 ∙ through (ImpossibleNumbers (site j p)) _ d.0 ∙ d.1
 
   pub any_input : {X : Type 0} (i j : ℕ) (wanted : Record → Option X) (bs : Bytes) (x : X) → read_one w i wanted bs ≡ Ok x → read_one w j wanted bs ≡ Ok x
   any_input i j wanted bs x e =
       let a = bind_ok (read_at w i bs 0) _ x e in
-      let b = bind_ok (given (wanted a.0.0) (UnwantedKind i 0)) _ x a.2 in
-      let c = must_ok (eqb a.0.1 (length bs)) (BytesAfter i 0) _ x b.2 in
-      bound _ (any_at i j bs 0 a.0 a.1) ∙ bound _ (ap (λ o. given o (UnwantedKind j 0)) (given_ok (wanted a.0.0) (UnwantedKind i 0) b.0 b.1))
-      ∙ through (BytesAfter j 0) _ c.0 ∙ c.1
+      let b = bind_ok (given (wanted a.0.0) (UnwantedKind (site i 0))) _ x a.2 in
+      let c = must_ok (eqb a.0.1 (length bs)) (BytesAfter (site i 0)) _ x b.2 in
+      bound _ (any_at i j bs 0 a.0 a.1) ∙ bound _ (ap (λ o. given o (UnwantedKind (site j 0))) (given_ok (wanted a.0.0) (UnwantedKind (site i 0)) b.0 b.1))
+      ∙ through (BytesAfter (site j 0)) _ c.0 ∙ c.1
 
   -- a spelled record is read as nothing else
   pub reads_only : {X : Type 0} (least : 1 ≤ w) (most : w ≤ 32) (i : ℕ) (wanted : Record → Option X) (r : Record) (x : X) → WellFormed w r →
       read_one w i wanted (spelled r) ≡ Ok x → wanted r ≡ Some x
   reads_only least most i wanted r x wf e =
       let a = bind_ok (read_at w i (spelled r) 0) _ x e in
-      let b = bind_ok (given (wanted a.0.0) (UnwantedKind i 0)) _ x a.2 in
-      let c = must_ok (eqb a.0.1 (length (spelled r))) (BytesAfter i 0) _ x b.2 in
+      let b = bind_ok (given (wanted a.0.0) (UnwantedKind (site i 0))) _ x a.2 in
+      let c = must_ok (eqb a.0.1 (length (spelled r))) (BytesAfter (site i 0)) _ x b.2 in
       let same : read_at w i (spelled r) 0 ≡ Ok (r, 0 + length (spelled r)) = ap (λ (z : Bytes). read_at w i z 0) (sym (append-nil (spelled r))) ∙ reads w least most i [] r [] wf in
       let o : r ≡ a.0.0 = ap (λ (z : Record × ℕ). z.0) (ok_same (sym same ∙ a.1)) in
-      ap wanted o ∙ given_ok (wanted a.0.0) (UnwantedKind i 0) b.0 b.1 ∙ ap Some (ok_same c.1)
+      ap wanted o ∙ given_ok (wanted a.0.0) (UnwantedKind (site i 0)) b.0 b.1 ∙ ap Some (ok_same c.1)
 
   -- a record read at a place: the bytes from there on are its one spelling and what follows it
   pub read_place : (i : ℕ) (bs : Bytes) (p : ℕ) (r : Record) (q : ℕ) → read_at w i bs p ≡ Ok (r, q) → WellFormed w r × (AllBytes (drop p bs) → drop p bs ≡ spelled r ++ drop q bs)

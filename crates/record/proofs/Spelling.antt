@@ -10,7 +10,7 @@ use Rattle.hash.specs.Collisions.{Bytes}
 use Rattle.tree.specs.Spans.{largest, span_of}
 use Rattle.tree.specs.Entries.{longest_entry}
 use Rattle.tree.proofs.Depth.{path_at_most, link_at_most}
-use Rattle.refusal.specs.Refusals.{given}
+use Rattle.refusal.specs.Refusals.{site, given}
 use Rattle.refusal.specs.declared.Refusal.TheVariants.{CutShort, UnknownKind, ImpossibleLength, ImpossibleNumbers, UnwantedKind, BytesAfter}
 use Rattle.record.specs.Frames.{Frame, unframed}
 use Rattle.tree.specs.Digests.{Digests}
@@ -26,8 +26,8 @@ module _ (w : ℕ) where
       unframed (drop p bs) ≡ Some (fr, post) → kinds w fr.kind ≡ Some (t, g) → t (length fr.payload) ≡ true → g fr.payload ≡ r → numbers_fit r ≡ true →
       read_at w i bs p ≡ Ok (r, p + 4 + length fr.payload)
   back_at i bs p fr post t g r a b c d e =
-      bound _ (ap (λ o. given o (CutShort i p)) a) ∙ bound _ (ap (λ o. given o (UnknownKind i p)) b) ∙ through (ImpossibleLength i p) _ c
-      ∙ through (ImpossibleNumbers i p) _ (ap numbers_fit d ∙ e) ∙ ap (λ z. Ok (z, p + 4 + length fr.payload)) d
+      bound _ (ap (λ o. given o (CutShort (site i p))) a) ∙ bound _ (ap (λ o. given o (UnknownKind (site i p))) b) ∙ through (ImpossibleLength (site i p)) _ c
+      ∙ through (ImpossibleNumbers (site i p)) _ (ap numbers_fit d ∙ e) ∙ ap (λ z. Ok (z, p + 4 + length fr.payload)) d
 
   -- two numbers and a row of digests
   module _ (a b : ℕ) (ps : List Bytes) (least : 1 ≤ w) (d : Digests w ps) (ha : a ≤ largest) (hb : b ≤ largest) where
@@ -164,5 +164,5 @@ module _ (w : ℕ) where
       read_one w i wanted (spelled r) ≡ Ok x
   reads_one least most i wanted r x wf e =
       bound _ (ap (λ (z : Bytes). read_at w i z 0) (sym (append-nil (spelled r))) ∙ reads least most i [] r [] wf)
-      ∙ bound _ (ap (λ o. given o (UnwantedKind i 0)) e)
-      ∙ through (BytesAfter i 0) _ (eq-eqb (0 + length (spelled r)) (length (spelled r)) (omega arith))
+      ∙ bound _ (ap (λ o. given o (UnwantedKind (site i 0))) e)
+      ∙ through (BytesAfter (site i 0)) _ (eq-eqb (0 + length (spelled r)) (length (spelled r)) (omega arith))

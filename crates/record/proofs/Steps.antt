@@ -3,7 +3,7 @@ use Rattle.std.proofs.Common.{◌≡◌, ℕ, ◌+◌, ◌*◌, ◌<◌, ◌≤�
 use Rattle.std.proofs.lemmas.List.{length-take-le}
 use Rattle.std.proofs.lemmas.Bool.{le-leb, lt-leb}
 use Rattle.hash.specs.Collisions.{Bytes}
-use Rattle.refusal.specs.Refusals.{Answer, must, given, ◌>>=◌, ◌>>◌}
+use Rattle.refusal.specs.Refusals.{Answer, site, must, given, ◌>>=◌, ◌>>◌}
 use Rattle.refusal.specs.declared.Refusal.{Refusal}
 use Rattle.refusal.specs.declared.Refusal.TheVariants.{CutShort, UnknownKind, ImpossibleLength, ImpossibleNumbers}
 use Rattle.record.specs.Frames.{Frame, frame_of, unframed}
@@ -34,10 +34,10 @@ pub moves : (p q : ℕ) (a : Answer (Record × ℕ)) (r : Record) (n : ℕ) → 
 moves p q a r n h k = (ap (λ (m : ℕ). Ok (r, m)) h ∙ sym k, h ∙ sym (ap (place_after p) k))
 
 module _ (w i : ℕ) (bs : Bytes) (p : ℕ) where
-  cut_off : unframed (drop p bs) ≡ None → read_at w i bs p ≡ Err (CutShort i p)
-  cut_off e = halted _ (ap (λ (o : Option (Frame × Bytes)). given o (CutShort i p)) e)
+  cut_off : unframed (drop p bs) ≡ None → read_at w i bs p ≡ Err (CutShort (site i p))
+  cut_off e = halted _ (ap (λ (o : Option (Frame × Bytes)). given o (CutShort (site i p))) e)
 
-  pub no_header : (e : Refusal) → e ≡ CutShort i p → length bs < p + 4 → read_at w i bs p ≡ Err e
+  pub no_header : (e : Refusal) → e ≡ CutShort (site i p) → length bs < p + 4 → read_at w i bs p ≡ Err e
   no_header e is h = cut_off (few (drop p bs) (omega (arith, length-drop p bs))) ∙ ap Err (sym is)
 
   module _ (len kind : ℕ) (whole : p + 4 ≤ length bs) (len_is : len ≡ get_or bs p 0 + 256 * get_or bs (p + 1) 0) (kind-is : kind ≡ get_or bs (p + 2) 0 + 256 * get_or bs (p + 3) 0) where
@@ -46,7 +46,7 @@ module _ (w i : ℕ) (bs : Bytes) (p : ℕ) where
         ap unframed (four_and_more bs p whole)
         ∙ sym (λ j. cond (leb (len_is j) (length (drop (p + 4) bs))) (Some (frame_of (kind-is j) (take (len_is j) (drop (p + 4) bs)), drop (len_is j) (drop (p + 4) bs))) None)
 
-    pub no_payload : (e : Refusal) → e ≡ CutShort i p → length bs < p + 4 + len → read_at w i bs p ≡ Err e
+    pub no_payload : (e : Refusal) → e ≡ CutShort (site i p) → length bs < p + 4 + len → read_at w i bs p ≡ Err e
     no_payload e is h =
         cut_off (opened ∙ ap (λ (t : Bool). cond t (Some (frame_of kind (take len (drop (p + 4) bs)), drop len (drop (p + 4) bs))) None)
         (lt-leb len (length (drop (p + 4) bs)) (omega (arith, length-drop (p + 4) bs))))
@@ -63,18 +63,18 @@ module _ (w i : ℕ) (bs : Bytes) (p : ℕ) where
           ∙ ap (λ (z : Bytes). Some (frame_of kind z, drop len (drop (p + 4) bs))) (sym pay-is)
 
       by_kind : read_at w i bs p ≡
-          (given (kinds w kind) (UnknownKind i p) >>= (λ k. must (k.0 (length pay)) (ImpossibleLength i p) >> (must (numbers_fit (k.1 pay)) (ImpossibleNumbers i p) >> Ok (k.1 pay, p + 4 + length pay))))
-      by_kind = bound _ (ap (λ (o : Option (Frame × Bytes)). given o (CutShort i p)) framed_so)
+          (given (kinds w kind) (UnknownKind (site i p)) >>= (λ k. must (k.0 (length pay)) (ImpossibleLength (site i p)) >> (must (numbers_fit (k.1 pay)) (ImpossibleNumbers (site i p)) >> Ok (k.1 pay, p + 4 + length pay))))
+      by_kind = bound _ (ap (λ (o : Option (Frame × Bytes)). given o (CutShort (site i p))) framed_so)
 
-      pub no_kind : (e : Refusal) → Err e ≡ given (kinds w kind) (UnknownKind i p) → read_at w i bs p ≡ Err e
+      pub no_kind : (e : Refusal) → Err e ≡ given (kinds w kind) (UnknownKind (site i p)) → read_at w i bs p ≡ Err e
       no_kind e h = by_kind ∙ halted _ (sym h)
 
-      module _ (row : (ℕ → Bool) × (Bytes → Record)) (known : Ok row ≡ given (kinds w kind) (UnknownKind i p)) where
-        parsed_so : read_at w i bs p ≡ (parsed i p row pay >>= (λ (r : Record). Ok (r, p + 4 + length pay)))
-        parsed_so = by_kind ∙ bound _ (sym known) ∙ placed (row.0 (length pay)) (numbers_fit (row.1 pay)) (ImpossibleLength i p) (ImpossibleNumbers i p) (row.1 pay) (p + 4 + length pay)
+      module _ (row : (ℕ → Bool) × (Bytes → Record)) (known : Ok row ≡ given (kinds w kind) (UnknownKind (site i p))) where
+        parsed_so : read_at w i bs p ≡ (parsed (site i p) row pay >>= (λ (r : Record). Ok (r, p + 4 + length pay)))
+        parsed_so = by_kind ∙ bound _ (sym known) ∙ placed (row.0 (length pay)) (numbers_fit (row.1 pay)) (ImpossibleLength (site i p)) (ImpossibleNumbers (site i p)) (row.1 pay) (p + 4 + length pay)
 
-        pub no_record : (e : Refusal) → Err e ≡ parsed i p row pay → read_at w i bs p ≡ Err e
+        pub no_record : (e : Refusal) → Err e ≡ parsed (site i p) row pay → read_at w i bs p ≡ Err e
         no_record e h = parsed_so ∙ halted _ (sym h)
 
-        pub a_record : (r : Record) → Ok r ≡ parsed i p row pay → read_at w i bs p ≡ Ok (r, p + 4 + length pay)
+        pub a_record : (r : Record) → Ok r ≡ parsed (site i p) row pay → read_at w i bs p ≡ Ok (r, p + 4 + length pay)
         a_record r h = parsed_so ∙ bound _ (sym h)

@@ -1,5 +1,6 @@
 -- Payloads as the code takes them apart. Assumes nothing.
 use Rattle.std.proofs.Common.{◌≡◌, ℕ, ◌+◌, ◌-◌, ◌*◌, ◌/◌, true, length, take, drop, sym, ap, ◌∙◌, le_refl, arith, length-drop}
+use Rattle.std.proofs.lemmas.List.{take-take, drop-take, drop-drop}
 use Rattle.std.proofs.lemmas.Slice.{between_to_end}
 use Rattle.cipher.specs.Bytes.{number}
 use Rattle.hash.specs.Hash.{cut}
@@ -32,13 +33,10 @@ pub link_in_is : (w m n : ℕ) (p : Bytes) → m ≡ number (take 4 p) → n ≡
     link (record { old = m; new = n; digests = digests_in w (take (length p - 8) (drop 8 p)) }) ≡ as_link w p
 link_in_is w m n p d e = λ i. link (record { old = d i; new = e i; digests = digests_in_are w p i })
 
-pub collision_in_is : (w : ℕ) (p : Bytes) →
-    collision (take (w - 0) p, take (w + 16 - w) (drop w p)) (take (w + 16 + w - (w + 16)) (drop (w + 16) p), take (length p - (w + 16 + w)) (drop (w + 16 + w) p))
-    ≡ as_collision w p
-collision_in_is w p =
-    let a : w - 0 ≡ w = omega arith in
-    let b : w + 16 - w ≡ 16 = omega arith in
-    let c : w + 16 + w - (w + 16) ≡ w = omega arith in
-    let d : w + 16 + w ≡ w + w + 16 = omega arith in
-    let e : take (length p - (w + 16 + w)) (drop (w + 16 + w) p) ≡ drop (w + w + 16) p = rest p (w + 16 + w) ∙ ap (λ (n : ℕ). drop n p) d in
-    λ i. collision (take (a i) p, take (b i) (drop w p)) (take (c i) (drop (w + 16) p), e i)
+pub collision_in_is : (w : ℕ) (p a b : Bytes) → a ≡ take (w + 16) p → b ≡ drop (w + 16) p →
+    collision (take w a, drop w a) (take w b, drop w b) ≡ as_collision w p
+collision_in_is w p a b first second =
+    let h : take w a ≡ take w p = ap (take w) first ∙ take-take w (w + 16) p (omega arith) in
+    let m : drop w a ≡ take 16 (drop w p) = ap (drop w) first ∙ drop-take w 16 p in
+    let k : drop w b ≡ drop (w + w + 16) p = ap (drop w) second ∙ drop-drop w (w + 16) p ∙ ap (λ (n : ℕ). drop n p) (omega arith) in
+    λ i. collision (h i, m i) (take w (second i), k i)

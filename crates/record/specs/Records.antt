@@ -8,7 +8,7 @@ use Rattle.tree.specs.Digests.{Digests}
 use Rattle.tree.specs.Tree.{shape_of, turns}
 use Rattle.tree.specs.Spans.{largest, link_spans}
 use Rattle.tree.specs.Entries.{longest_entry}
-use Rattle.refusal.specs.Refusals.{Answer, must, given, ◌>>=◌, ◌>>◌}
+use Rattle.refusal.specs.Refusals.{Answer, site, must, given, ◌>>=◌, ◌>>◌}
 use Rattle.refusal.specs.declared.Refusal.TheVariants.{CutShort, UnknownKind, ImpossibleLength, ImpossibleNumbers, UnwantedKind, BytesAfter}
 use Rattle.record.specs.Frames.{Frame, frame_of, framed, unframed}
 
@@ -104,10 +104,10 @@ numbers_fit (collision x y) = true
 -- the record at a place of input i, and the place after it
 abbrev pub read_at : ℕ → ℕ → Bytes → ℕ → Answer (Record × ℕ)
 read_at w i bs p = do
-  q ← given (unframed (drop p bs)) (CutShort i p)
-  k ← given (kinds w q.0.kind) (UnknownKind i p)
-  must (k.0 (length q.0.payload)) (ImpossibleLength i p)
-  must (numbers_fit (k.1 q.0.payload)) (ImpossibleNumbers i p)
+  q ← given (unframed (drop p bs)) (CutShort (site i p))
+  k ← given (kinds w q.0.kind) (UnknownKind (site i p))
+  must (k.0 (length q.0.payload)) (ImpossibleLength (site i p))
+  must (numbers_fit (k.1 q.0.payload)) (ImpossibleNumbers (site i p))
   Ok (k.1 q.0.payload, p + 4 + length q.0.payload)
 
 -- the record as a head, if it is one
@@ -159,8 +159,8 @@ collision_in (collision x y) = Some (x, y)
 abbrev pub read_one : {X : Type 0} → ℕ → ℕ → (Record → Option X) → Bytes → Answer X
 read_one w i wanted bs = do
   q ← read_at w i bs 0
-  x ← given (wanted q.0) (UnwantedKind i 0)
-  must (q.1 == length bs) (BytesAfter i 0)
+  x ← given (wanted q.0) (UnwantedKind (site i 0))
+  must (q.1 == length bs) (BytesAfter (site i 0))
   Ok x
 
 -- the parts of a record have their widths

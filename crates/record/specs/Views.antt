@@ -6,6 +6,7 @@ use Rattle.hash.specs.Collisions.{Bytes, Input}
 use Rattle.refusal.specs.Refusals.{Answer, must, ◌>>◌}
 use Rattle.refusal.specs.declared.Refusal.TheVariants.{ImpossibleLength, ImpossibleNumbers}
 use Rattle.refusal.specs.declared.Refusal.{Refusal}
+use Rattle.refusal.specs.declared.Site.{Site}
 use Rattle.record.specs.declared.records.Record.{Record as LentRecord}
 use Rattle.record.specs.declared.records.Record.TheVariants.{Leaf, Head, Proof, Link, Entry, Collision}
 use Rattle.record.specs.declared.records.Proof.{Proof as LentProof}
@@ -66,11 +67,11 @@ input_of bytes x = (bytes x.h, block_bytes x.m)
 abbrev pub collision_of : {D : Type 0} → (D → Bytes) → WordCollision D → Input × Input
 collision_of bytes c = (input_of bytes c.first, input_of bytes c.second)
 
--- a payload by the row of its kind, in a record at place p of input i
-abbrev pub parsed : ℕ → ℕ → (ℕ → Bool) × (Bytes → records.Record) → Bytes → Answer records.Record
-parsed i p row bs = do
-  must (row.0 (length bs)) (ImpossibleLength i p)
-  must (records.numbers_fit (row.1 bs)) (ImpossibleNumbers i p)
+-- a payload by the row of its kind, in a record at a place
+abbrev pub parsed : Site → (ℕ → Bool) × (Bytes → records.Record) → Bytes → Answer records.Record
+parsed s row bs = do
+  must (row.0 (length bs)) (ImpossibleLength s)
+  must (records.numbers_fit (row.1 bs)) (ImpossibleNumbers s)
   Ok (row.1 bs)
 
 -- the answer of a reader that stands at place q after it

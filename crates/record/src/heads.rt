@@ -14,6 +14,7 @@ pub struct Head<D> {
 
 impl<D: Copy> Copy for Head<D> {}
 
+// By hand, since `Clone` is not derived for a struct with a ghost field.
 impl<D: Copy> Clone for Head<D> {
     ghost is_clone = { λ x y. y ≡ x };
 

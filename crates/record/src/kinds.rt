@@ -1,17 +1,15 @@
 // The six kinds of records: their numbers, and how long a payload may be.
 ghost use Rattle.std.specs.Prelude.{◌≡◌, ℕ};
-ghost use Rattle.std.specs.Option.{option_map};
-ghost use Rattle.std.specs.Result as results;
+ghost use Rattle.std.specs.Result.{result_map_both};
 ghost use Rattle.refusal.specs.Refusals.{given};
 ghost use Rattle.refusal.specs.declared.Refusal.{Refusal as TheRefusal};
 ghost use Rattle.refusal.specs.declared.Refusal.TheVariants.{UnknownKind};
 ghost use Rattle.record.specs.Records.{kinds, rows};
-ghost use Rattle.record.specs.Kinds.{number_of, row_of};
+ghost use Rattle.record.specs.Kinds.{number_of, row_of, ReadAs};
 
 use crate::collisions::BLOCK_LEN;
-use crate::site::Site;
 use cipher::words::Words;
-use refusal::Refusal;
+use refusal::{Refusal, Site};
 use tree::digests::LONGEST_ENTRY;
 
 // A path has at most so many digests.
@@ -20,7 +18,7 @@ const LONGEST_PATH: usize = 20;
 // A link has at most so many digests.
 const LONGEST_LINK: usize = 21;
 
-#[derive(Clone, Copy)]
+#[derive(Clone, Copy, PartialEq, Eq, Debug)]
 pub enum Kind {
     Leaf = 1,
     Head = 2,
@@ -30,28 +28,37 @@ pub enum Kind {
     Collision = 6,
 }
 
-impl Kind {
-    pub(crate) fn number(self) -> u16
-        ensures { result ≡ number_of self }
-    {
-        self as u16
-    }
+// A number that no kind of record has.
+#[derive(Clone, Copy, PartialEq, Eq, Debug)]
+pub struct NoSuchKind(pub u16);
 
-    // The kind that has a number, if there is one.
-    pub(crate) fn of(number: u16) -> Option<Kind>
-        ensures { (w : ℕ) → option_map (row_of w) result ≡ kinds w number }
-    {
+impl From<Kind> for u16 {
+    ghost from_gives = { λ kind number. number ≡ number_of kind };
+
+    fn from(kind: Kind) -> u16 {
+        kind as u16
+    }
+}
+
+impl TryFrom<u16> for Kind {
+    type Error = NoSuchKind;
+
+    ghost try_from_gives = { ReadAs };
+
+    fn try_from(number: u16) -> Result<Kind, NoSuchKind> {
         match number {
-            1 => Some(Kind::Leaf),
-            2 => Some(Kind::Head),
-            3 => Some(Kind::Proof),
-            4 => Some(Kind::Link),
-            5 => Some(Kind::Entry),
-            6 => Some(Kind::Collision),
-            _ => None,
+            1 => Ok(Kind::Leaf),
+            2 => Ok(Kind::Head),
+            3 => Ok(Kind::Proof),
+            4 => Ok(Kind::Link),
+            5 => Ok(Kind::Entry),
+            6 => Ok(Kind::Collision),
+            _ => Err(NoSuchKind(number)),
         }
     }
+}
 
+impl Kind {
     // Whether a payload of this kind can have so many bytes.
     pub(crate) fn takes<D: Words>(self, len: usize) -> bool
         ensures { result ≡ (row_of D.Words.width self).0 len }
@@ -77,13 +84,7 @@ fn has_digests<D: Words>(len: usize, most: usize) -> bool
 
 // The kind that has a number, for the record at a site.
 pub(crate) fn known(number: u16, site: Site) -> Result<Kind, Refusal>
-    ensures { (w : ℕ) → results.result_map_both (row_of w) (λ (e : TheRefusal). e) result ≡ given (kinds w number) (UnknownKind site.input site.place) }
+    ensures { (w : ℕ) → result_map_both (row_of w) (λ (e : TheRefusal). e) result ≡ given (kinds w number) (UnknownKind site) }
 {
-    match Kind::of(number) {
-        Some(kind) => Ok(kind),
-        None => Err(Refusal::UnknownKind {
-            input: site.input,
-            place: site.place,
-        }),
-    }
+    Kind::try_from(number).map_err(|_| Refusal::UnknownKind(site))
 }

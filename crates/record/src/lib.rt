@@ -11,6 +11,5 @@ mod payload;
 pub mod reader;
 pub mod records;
 pub mod single;
-mod site;
 pub mod sizes;
 pub mod write;

@@ -5,14 +5,13 @@ ghost use Rattle.refusal.specs.declared.Refusal.{Refusal as TheRefusal};
 ghost use Rattle.cipher.specs.Bytes.{number};
 ghost use Rattle.record.specs.Records.{numbers_fit};
 ghost use Rattle.record.specs.Kinds.{row_of};
-ghost use Rattle.record.specs.Views.{record_of, parsed, Whole};
+ghost use Rattle.record.specs.Views.{record_of, input_in, parsed, Whole};
 
 use crate::collisions::BLOCK_LEN;
 use crate::kinds::Kind;
 use crate::records::{InputBytes, Link, Proof, Record};
-use crate::site::Site;
 use cipher::words::Words;
-use refusal::Refusal;
+use refusal::{Refusal, Site, must};
 use tree::spans::{LARGEST, link_len, path_len};
 
 // The number of four bytes at a place.
@@ -20,29 +19,33 @@ fn number_at(bytes: &[u8], at: usize) -> u32
     requires { at + 4 ≤ length bytes.now }
     ensures { result ≡ number (take 4 (drop at bytes.now)) }
 {
-    u32::from_le_bytes([bytes[at], bytes[at + 1], bytes[at + 2], bytes[at + 3]])
+    u32::from_le_bytes(*bytes[at..].first_chunk().unwrap())
+}
+
+// A chaining value and the block behind it.
+fn input_in<'a, D: Words>(bytes: &'a [u8]) -> InputBytes<'a>
+    requires { D.Words.width ≤ length bytes.now }
+    ensures { input_in result ≡ (take D.Words.width bytes.now, drop D.Words.width bytes.now) }
+{
+    let (h, m) = bytes.split_at(D::size());
+    InputBytes { h, m }
 }
 
 // The record of a collision's payload.
+#[tactic(auto, using(crate::proofs::Taken::collision_in_is))]
 fn collision_in<'a, D: Words>(payload: &'a [u8]) -> Record<'a>
     requires { (row_of D.Words.width Kind.Collision).0 (length payload.now) ≡ true }
     ensures { record_of D.Words.width result ≡ (row_of D.Words.width Kind.Collision).1 payload.now }
 {
-    let width = D::size();
-    let second = width + BLOCK_LEN;
+    let (first, second) = payload.split_at(D::size() + BLOCK_LEN);
     Record::Collision {
-        first: InputBytes {
-            h: &payload[0..width],
-            m: &payload[width..second],
-        },
-        second: InputBytes {
-            h: &payload[second..second + width],
-            m: &payload[second + width..],
-        },
+        first: input_in::<D>(first),
+        second: input_in::<D>(second),
     }
 }
 
 // The record of a kind and a payload of a possible length.
+#[tactic(auto, using(crate::proofs::Taken::head_in_is, crate::proofs::Taken::proof_in_is, crate::proofs::Taken::link_in_is, crate::proofs::Taken::whole_rows))]
 fn record_in<'a, D: Words>(kind: Kind, payload: &'a [u8]) -> Record<'a>
     requires { (row_of D.Words.width kind).0 (length payload.now) ≡ true }
     ensures says { record_of D.Words.width result ≡ (row_of D.Words.width kind).1 payload.now }
@@ -70,6 +73,7 @@ fn record_in<'a, D: Words>(kind: Kind, payload: &'a [u8]) -> Record<'a>
 }
 
 // Whether a record's numbers are possible, and fix as many digests as it has.
+#[tactic(auto, using(crate::proofs::Counted::proof_counted, crate::proofs::Counted::link_counted))]
 fn numbers_fit<D: Words>(r: Record<'_>) -> bool
     ensures { result ≡ numbers_fit (record_of D.Words.width r.entry) }
 {
@@ -96,21 +100,14 @@ pub(crate) fn parse<'a, D: Words>(
     payload: &'a [u8],
     site: Site,
 ) -> Result<Record<'a>, Refusal>
-    ensures answer { result_map_both (record_of D.Words.width) (λ (e : TheRefusal). e) result ≡ parsed site.input site.place (row_of D.Words.width kind) payload.now }
+    ensures answer { result_map_both (record_of D.Words.width) (λ (e : TheRefusal). e) result ≡ parsed site (row_of D.Words.width kind) payload.now }
     ensures whole { IfOk result (Whole D.Words.width) }
 {
-    if !kind.takes::<D>(payload.len()) {
-        return Err(Refusal::ImpossibleLength {
-            input: site.input,
-            place: site.place,
-        });
-    }
+    must(
+        kind.takes::<D>(payload.len()),
+        Refusal::ImpossibleLength(site),
+    )?;
     let read = record_in::<D>(kind, payload);
-    if !numbers_fit::<D>(read) {
-        return Err(Refusal::ImpossibleNumbers {
-            input: site.input,
-            place: site.place,
-        });
-    }
+    must(numbers_fit::<D>(read), Refusal::ImpossibleNumbers(site))?;
     Ok(read)
 }

@@ -3,13 +3,12 @@ ghost use Rattle.std.specs.Prelude.{◌≡◌, ◌<◌, ◌≤◌, length, IfOk,
 ghost use Rattle.record.specs.Records.{read_at};
 ghost use Rattle.record.specs.Views.{answer_of, place_after, Whole};
 
-use crate::frame::{HEADER_LEN, header_at, payload_at};
+use crate::frame::{HEADER_LEN, bytes_at, header_at};
 use crate::kinds::known;
 use crate::payload::parse;
 use crate::records::Record;
-use crate::site::Site;
 use cipher::words::Words;
-use refusal::Refusal;
+use refusal::{Refusal, Site};
 
 // Input `number` of a call, with the place of the next record.
 #[derive(Drop)]
@@ -66,6 +65,7 @@ impl<'a> Reader<'a> {
     }
 
     // The record at the reader's place, which moves past it, or stays where it is if there is none.
+    #[tactic(auto, using(crate::proofs::Steps::no_header, crate::proofs::Steps::no_payload, crate::proofs::Steps::no_kind, crate::proofs::Steps::no_record, crate::proofs::Steps::long))]
     pub fn next<D: Words>(&mut self) -> Result<Record<'a>, Refusal>
         ensures answer { answer_of D.Words.width result self.new.place ≡ read_at D.Words.width self.old.number self.old.input.now self.old.place }
         ensures place { self.new.place ≡ place_after self.old.place (read_at D.Words.width self.old.number self.old.input.now self.old.place) }
@@ -86,7 +86,7 @@ impl<'a> Reader<'a> {
         };
         let header = header_at(input, *guard.place, site)?;
         *guard.place += HEADER_LEN;
-        let payload = payload_at(input, *guard.place, header.len as usize, site)?;
+        let payload = bytes_at(input, *guard.place, header.len as usize, site)?;
         *guard.place += payload.len();
         let kind = known(header.kind, site)?;
         let read = parse::<D>(kind, payload, site)?;

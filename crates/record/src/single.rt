@@ -1,107 +1,150 @@
 // Inputs that are a single record of one kind; `number` is the input's, for a refusal.
-ghost use Rattle.std.specs.Prelude.{◌≡◌, ◌≤◌, length, IfOk, ◌==◌};
+ghost use Rattle.std.specs.Prelude.{◌≡◌, Option, length, IfSome, IfOk, Some};
+ghost use Rattle.std.specs.Option.{option_map};
 ghost use Rattle.std.specs.Result.{result_map_both};
-ghost use Rattle.tree.specs.Spans.{largest};
-ghost use Rattle.refusal.specs.Refusals.{must};
 ghost use Rattle.refusal.specs.declared.Refusal.{Refusal as TheRefusal};
-ghost use Rattle.refusal.specs.declared.Refusal.TheVariants.{UnwantedKind, BytesAfter};
-ghost use Rattle.record.specs.Records.{read_one, head_in, proof_in, link_in, collision_in};
-ghost use Rattle.record.specs.Views.{proof_of, link_of, head_of, input_in, input_of, collision_of, WholeDigests};
+ghost use Rattle.record.specs.Records.{read_one, head_in, proof_in, link_in, collision_in, WellFormed};
+ghost use Rattle.record.specs.Records as records;
+ghost use Rattle.hash.specs.Collisions as collisions;
+ghost use Rattle.record.specs.Views.{record_of, proof_of, link_of, head_of, input_in, input_of, collision_of, Whole, WholeDigests};
 
 use crate::collisions::{Collision, Input};
 use crate::heads::Head;
 use crate::reader::Reader;
 use crate::records::{InputBytes, Link, Proof, Record};
 use cipher::words::{Block, Words};
-use refusal::Refusal;
+use refusal::{Refusal, Site, must};
 
-// Input `number` is a record of another kind.
-fn unwanted(number: u8) -> Refusal
-    ensures { result ≡ UnwantedKind number 0 }
-{
-    Refusal::UnwantedKind {
-        input: number,
-        place: 0,
+// What the records of one kind say.
+trait Single<'a, D: Words>: Copy {
+    ghost Says: { Type 0 };
+
+    ghost says: { Self → Says };
+
+    ghost wanted: { records.Record → Option Says };
+
+    ghost whole: { Self → Type 0 };
+
+    // What the record says, if it is of that kind.
+    fn of(read: Record<'a>) -> Option<Self>
+        ensures says { WellFormed D.Words.width (record_of D.Words.width read.entry) → option_map says result ≡ wanted (record_of D.Words.width read.entry) }
+        ensures whole { Whole D.Words.width read.entry → IfSome result whole };
+}
+
+impl<'a, D: Words> Single<'a, D> for Head<D> {
+    ghost Says = { records.Head };
+
+    ghost says = { head_of D.Words.bytes };
+
+    ghost wanted = { head_in };
+
+    ghost whole = { λ _. Unit {0} };
+
+    fn of(read: Record<'a>) -> Option<Head<D>> {
+        let Record::Head { size, root } = read else {
+            return None;
+        };
+        Head::new(size, D::load(root, 0)?)
     }
 }
 
-// Input `number` has to end where the reader stands.
-fn ended(reader: &Reader<'_>, number: u8) -> Result<(), Refusal>
-    ensures { result ≡ must (reader.now.place == length reader.now.input.now) (BytesAfter number 0) }
-{
-    if !reader.is_at_end() {
-        return Err(Refusal::BytesAfter {
-            input: number,
-            place: 0,
-        });
+impl<'a, D: Words> Single<'a, D> for Proof<'a> {
+    ghost Says = { records.Proof };
+
+    ghost says = { proof_of D.Words.width };
+
+    ghost wanted = { proof_in };
+
+    ghost whole = { λ p. WholeDigests D.Words.width p.path.now };
+
+    fn of(read: Record<'a>) -> Option<Proof<'a>> {
+        let Record::Proof(proof) = read else {
+            return None;
+        };
+        Some(proof)
     }
-    Ok(())
 }
 
-// A head of a possible size, with a root of a digest's length.
-fn head_of<D: Words>(size: u32, root: &[u8]) -> Head<D>
-    requires { (1 ≤ size) × (size ≤ largest) × (length root.now ≡ D.Words.width) }
-    ensures { head_of D.Words.bytes result ≡ record { size = size; root = root.now } }
-{
-    Head::new(size, D::load(root, 0).unwrap()).unwrap()
+impl<'a, D: Words> Single<'a, D> for Link<'a> {
+    ghost Says = { records.Link };
+
+    ghost says = { link_of D.Words.width };
+
+    ghost wanted = { link_in };
+
+    ghost whole = { λ l. WholeDigests D.Words.width l.digests.now };
+
+    fn of(read: Record<'a>) -> Option<Link<'a>> {
+        let Record::Link(link) = read else {
+            return None;
+        };
+        Some(link)
+    }
 }
 
-// An input whose parts have their lengths.
-fn input_of<D: Words>(parts: InputBytes<'_>) -> Input<D>
-    requires { (length parts.h.now ≡ D.Words.width) × (length parts.m.now ≡ 16) }
-    ensures { input_of D.Words.bytes result ≡ input_in parts.entry }
-{
-    Input {
-        h: D::load(parts.h, 0).unwrap(),
-        m: Block::load(parts.m, 0).unwrap(),
+impl<'a, D: Words> Single<'a, D> for Collision<D> {
+    ghost Says = { collisions.Input × collisions.Input };
+
+    ghost says = { collision_of D.Words.bytes };
+
+    ghost wanted = { collision_in };
+
+    ghost whole = { λ _. Unit {0} };
+
+    fn of(read: Record<'a>) -> Option<Collision<D>> {
+        let Record::Collision { first, second } = read else {
+            return None;
+        };
+        Some(Collision {
+            first: input_of(first)?,
+            second: input_of(second)?,
+        })
     }
+}
+
+// An input of the compression, if its parts have their lengths.
+fn input_of<D: Words>(parts: InputBytes<'_>) -> Option<Input<D>>
+    ensures { (length parts.entry.h.now ≡ D.Words.width) → (length parts.entry.m.now ≡ 16) → option_map (input_of D.Words.bytes) result ≡ Some (input_in parts.entry) }
+{
+    Some(Input {
+        h: D::load(parts.h, 0)?,
+        m: Block::load(parts.m, 0)?,
+    })
+}
+
+fn read_one<'a, D: Words, T: Single<'a, D>>(number: u8, bytes: &'a [u8]) -> Result<T, Refusal>
+    ensures answer { result_map_both T.says (λ (e : TheRefusal). e) result ≡ read_one D.Words.width number T.wanted bytes.now }
+    ensures whole { IfOk result T.whole }
+{
+    let site = Site::start_of(number);
+    let mut reader = Reader::new(number, bytes);
+    let found = T::of(reader.next::<D>()?).ok_or(Refusal::UnwantedKind(site))?;
+    must(reader.is_at_end(), Refusal::BytesAfter(site))?;
+    Ok(found)
 }
 
 pub fn read_head<D: Words>(number: u8, bytes: &[u8]) -> Result<Head<D>, Refusal>
     ensures { result_map_both (head_of D.Words.bytes) (λ (e : TheRefusal). e) result ≡ read_one D.Words.width number head_in bytes.now }
 {
-    let mut reader = Reader::new(number, bytes);
-    let Record::Head { size, root } = reader.next::<D>()? else {
-        return Err(unwanted(number));
-    };
-    ended(&reader, number)?;
-    Ok(head_of(size, root))
+    read_one(number, bytes)
 }
 
 pub fn read_proof<'a, D: Words>(number: u8, bytes: &'a [u8]) -> Result<Proof<'a>, Refusal>
     ensures answer { result_map_both (proof_of D.Words.width) (λ (e : TheRefusal). e) result ≡ read_one D.Words.width number proof_in bytes.now }
     ensures whole { IfOk result (λ p. WholeDigests D.Words.width p.path.now) }
 {
-    let mut reader = Reader::new(number, bytes);
-    let Record::Proof(proof) = reader.next::<D>()? else {
-        return Err(unwanted(number));
-    };
-    ended(&reader, number)?;
-    Ok(proof)
+    read_one::<D, Proof<'a>>(number, bytes)
 }
 
 pub fn read_link<'a, D: Words>(number: u8, bytes: &'a [u8]) -> Result<Link<'a>, Refusal>
     ensures answer { result_map_both (link_of D.Words.width) (λ (e : TheRefusal). e) result ≡ read_one D.Words.width number link_in bytes.now }
     ensures whole { IfOk result (λ l. WholeDigests D.Words.width l.digests.now) }
 {
-    let mut reader = Reader::new(number, bytes);
-    let Record::Link(link) = reader.next::<D>()? else {
-        return Err(unwanted(number));
-    };
-    ended(&reader, number)?;
-    Ok(link)
+    read_one::<D, Link<'a>>(number, bytes)
 }
 
 pub fn read_collision<D: Words>(number: u8, bytes: &[u8]) -> Result<Collision<D>, Refusal>
     ensures { result_map_both (collision_of D.Words.bytes) (λ (e : TheRefusal). e) result ≡ read_one D.Words.width number collision_in bytes.now }
 {
-    let mut reader = Reader::new(number, bytes);
-    let Record::Collision { first, second } = reader.next::<D>()? else {
-        return Err(unwanted(number));
-    };
-    ended(&reader, number)?;
-    Ok(Collision {
-        first: input_of(first),
-        second: input_of(second),
-    })
+    read_one(number, bytes)
 }

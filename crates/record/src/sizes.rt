@@ -9,6 +9,7 @@ use crate::frame::HEADER_LEN;
 use cipher::words::Words;
 use tree::digests::LONGEST_ENTRY;
 
+#[tactic(auto, using(crate::proofs::Lengths::length_leaf))]
 pub fn leaf_len<D: Words>() -> usize
     ensures value { result ≡ 4 + D.Words.width }
     ensures spells { (d : Bytes) → Parts D.Words.width (leaf d) → length (spelled (leaf d)) ≡ result }
@@ -16,6 +17,7 @@ pub fn leaf_len<D: Words>() -> usize
     HEADER_LEN + D::size()
 }
 
+#[tactic(auto, using(crate::proofs::Lengths::length_head))]
 pub fn head_len<D: Words>() -> usize
     ensures value { result ≡ 8 + D.Words.width }
     ensures spells { (h : TheHead) → Parts D.Words.width (head h) → length (spelled (head h)) ≡ result }
@@ -24,6 +26,7 @@ pub fn head_len<D: Words>() -> usize
 }
 
 // An entry of so many bytes, of which one that is longer than an entry may be counts as the longest.
+#[tactic(auto, using(crate::proofs::Lengths::length_entry))]
 pub fn entry_len(len: usize) -> usize
     ensures value { result ≡ 4 + min len longest_entry }
     ensures spells { (e : Bytes) → length e ≡ len → length e ≤ longest_entry → length (spelled (entry e)) ≡ result }
@@ -31,6 +34,7 @@ pub fn entry_len(len: usize) -> usize
     HEADER_LEN + len.min(LONGEST_ENTRY)
 }
 
+#[tactic(auto, using(crate::proofs::Lengths::length_collision))]
 pub fn collision_len<D: Words>() -> usize
     ensures value { result ≡ 4 + 2 * (D.Words.width + 16) }
     ensures spells { (x y : TheInput) → Parts D.Words.width (collision x y) → length (spelled (collision x y)) ≡ result }

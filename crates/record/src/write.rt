@@ -22,6 +22,7 @@ fn has_room(into: &[u8], at: usize, len: usize) -> bool
 }
 
 // Writes some bytes.
+#[tactic(auto, using(crate::proofs::Writing::no_room))]
 fn put(bytes: &[u8], into: &mut [u8], at: usize)
     ensures { into.new ≡ stored at bytes.now into.old }
 {
@@ -31,6 +32,7 @@ fn put(bytes: &[u8], into: &mut [u8], at: usize)
 }
 
 // Writes a number of a payload.
+#[tactic(auto, unfolding(cipher::specs::Bytes::little))]
 pub fn write_number(n: u32, into: &mut [u8], at: usize)
     ensures { into.new ≡ stored at (little 4 n) into.old }
 {
@@ -38,14 +40,16 @@ pub fn write_number(n: u32, into: &mut [u8], at: usize)
 }
 
 // Writes what stands before a payload of some length.
+#[tactic(auto, unfolding(cipher::specs::Bytes::little))]
 pub fn write_header(kind: Kind, len: u16, into: &mut [u8], at: usize)
     ensures { into.new ≡ stored at (little 2 len ++ little 2 (number_of kind)) into.old }
 {
     let len = len.to_le_bytes();
-    let kind = kind.number().to_le_bytes();
+    let kind = u16::from(kind).to_le_bytes();
     put(&[len[0], len[1], kind[0], kind[1]], into, at);
 }
 
+#[tactic(auto, using(crate::proofs::Writing::no_room))]
 pub fn write_leaf<D: Words>(digest: D, into: &mut [u8], at: usize)
     ensures { into.new ≡ stored at (spelled (leaf (D.Words.bytes digest))) into.old }
 {
@@ -66,6 +70,7 @@ pub fn write_head<D: Words>(h: Head<D>, into: &mut [u8], at: usize)
 }
 
 // Writes an entry, unless it is longer than an entry may be.
+#[tactic(auto, using(crate::proofs::Writing::no_room))]
 pub fn write_entry(bytes: &[u8], into: &mut [u8], at: usize)
     ensures fits { length bytes.now ≤ longest_entry → into.new ≡ stored at (spelled (entry bytes.now)) into.old }
     ensures long { longest_entry < length bytes.now → into.new ≡ into.old }

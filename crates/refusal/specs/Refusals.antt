@@ -1,35 +1,45 @@
 -- What each refusal returns, and how the checks of a call follow each other. Assumes nothing.
-use Rattle.std.specs.Prelude.{ℕ, Bool, true, false, Some, None, Ok, Err, Option, Result}
+use Rattle.std.specs.Prelude.{ℕ, Bool, true, false, List, ◌++◌, Some, None, Ok, Err, Option, Result, codes, decimal}
 use Rattle.refusal.specs.declared.Refusal.{Refusal}
 use Rattle.refusal.specs.declared.Refusal.TheVariants.{MadeOverLeaves, CutShort, UnknownKind, ImpossibleLength, ImpossibleNumbers, ImpossibleRequest, UnwantedKind, BytesAfter, OtherNumbers, WrongRoot, NoCollision, TooLong, StoreFull, FileFull, OutputShort, TooFewCells, StackFull, EqualMessages, UnequalDigests, EqualPapers}
 use Rattle.refusal.specs.declared.Returned.{Returned}
+use Rattle.refusal.specs.declared.Site.{Site}
 
--- number n, about input i, at place p
-abbrev pub about : ℕ → ℕ → ℕ → Returned
-about n i p = record { number = n; input = i; place = p }
+-- place p of input i
+abbrev pub site : ℕ → ℕ → Site
+site i p = record { input = i; place = p }
+
+-- number n, about a place in an input
+abbrev pub about : ℕ → Site → Returned
+about n s = record { number = n; input = s.input; place = s.place }
 
 -- the number, input and place that a refusal returns
 abbrev pub returned_of : Refusal → Returned
-returned_of MadeOverLeaves = about 1 0 0
-returned_of (CutShort i p) = about 2 i p
-returned_of (UnknownKind i p) = about 3 i p
-returned_of (ImpossibleLength i p) = about 4 i p
-returned_of (ImpossibleNumbers i p) = about 5 i p
-returned_of ImpossibleRequest = about 5 0 0
-returned_of (UnwantedKind i p) = about 6 i p
-returned_of (BytesAfter i p) = about 6 i p
-returned_of (OtherNumbers i p) = about 7 i p
-returned_of (WrongRoot i p) = about 8 i p
-returned_of (NoCollision i) = about 8 i 0
-returned_of (TooLong i) = about 9 i 0
-returned_of StoreFull = about 10 0 0
-returned_of FileFull = about 10 0 0
-returned_of OutputShort = about 10 0 0
-returned_of TooFewCells = about 10 0 0
-returned_of StackFull = about 10 0 0
-returned_of EqualMessages = about 11 0 0
-returned_of UnequalDigests = about 11 0 0
-returned_of EqualPapers = about 11 0 0
+returned_of MadeOverLeaves = about 1 (site 0 0)
+returned_of (CutShort s) = about 2 s
+returned_of (UnknownKind s) = about 3 s
+returned_of (ImpossibleLength s) = about 4 s
+returned_of (ImpossibleNumbers s) = about 5 s
+returned_of ImpossibleRequest = about 5 (site 0 0)
+returned_of (UnwantedKind s) = about 6 s
+returned_of (BytesAfter s) = about 6 s
+returned_of (OtherNumbers s) = about 7 s
+returned_of (WrongRoot s) = about 8 s
+returned_of (NoCollision i) = about 8 (site i 0)
+returned_of (TooLong i) = about 9 (site i 0)
+returned_of StoreFull = about 10 (site 0 0)
+returned_of FileFull = about 10 (site 0 0)
+returned_of OutputShort = about 10 (site 0 0)
+returned_of TooFewCells = about 10 (site 0 0)
+returned_of StackFull = about 10 (site 0 0)
+returned_of EqualMessages = about 11 (site 0 0)
+returned_of UnequalDigests = about 11 (site 0 0)
+returned_of EqualPapers = about 11 (site 0 0)
+
+-- how that is printed
+abbrev pub returned_text : Returned → List ℕ
+returned_text r =
+    codes "refused " ++ (decimal r.number ++ (codes " input " ++ (decimal r.input ++ (codes " place " ++ decimal r.place))))
 
 -- the answer of a call: a value, or the first refusal met
 abbrev pub Answer : Type 0 → Type 0

@@ -2,30 +2,39 @@
 // place is the first byte of a record in its input.
 #![tactic(auto)]
 
-ghost use Rattle.std.specs.Prelude.{◌≡◌};
-ghost use Rattle.refusal.specs.Refusals.{returned_of};
+ghost use Rattle.std.specs.Prelude.{◌≡◌, Some};
+ghost use Rattle.refusal.specs.Refusals.{site, about, returned_of, returned_text, must};
+
+use std::fmt;
+
+// A place in an input of a call.
+#[derive(Clone, Copy, PartialEq, Eq, Debug)]
+pub struct Site {
+    pub input: u8,
+    pub place: usize,
+}
 
 #[derive(Clone, Copy, PartialEq, Eq, Debug)]
 pub enum Refusal {
     // The log was made over a store that had leaves.
     MadeOverLeaves,
     // The bytes end before the record does.
-    CutShort { input: u8, place: usize },
-    UnknownKind { input: u8, place: usize },
+    CutShort(Site),
+    UnknownKind(Site),
     // No record of this kind has a payload of this length.
-    ImpossibleLength { input: u8, place: usize },
+    ImpossibleLength(Site),
     // A size that no tree has, numbers out of order, or another number of digests than the numbers fix.
-    ImpossibleNumbers { input: u8, place: usize },
+    ImpossibleNumbers(Site),
     // The same of plain numbers, or a size above the log's count.
     ImpossibleRequest,
     // A record of another kind is wanted.
-    UnwantedKind { input: u8, place: usize },
+    UnwantedKind(Site),
     // Bytes follow where a single record is wanted.
-    BytesAfter { input: u8, place: usize },
+    BytesAfter(Site),
     // A proof or a link has other sizes, or another index, than the heads or the other proof or link.
-    OtherNumbers { input: u8, place: usize },
+    OtherNumbers(Site),
     // A proof or a link rebuilds another root than its head has.
-    WrongRoot { input: u8, place: usize },
+    WrongRoot(Site),
     // Two inputs of the compression that are equal or have different outputs.
     NoCollision { input: u8 },
     // This input is longer than its kind may be.
@@ -51,48 +60,68 @@ pub struct Returned {
     pub place: usize,
 }
 
+// What a refusal that is about no input is about.
+const NOWHERE: Site = Site { input: 0, place: 0 };
+
+impl Site {
+    // The first byte of an input.
+    pub fn start_of(input: u8) -> Site
+        ensures { result ≡ site input 0 }
+    {
+        Site { input, place: 0 }
+    }
+}
+
 impl Refusal {
     pub fn returned(self) -> Returned
         ensures { result ≡ returned_of self }
     {
         match self {
-            Refusal::MadeOverLeaves => plain(1),
-            Refusal::CutShort { input, place } => at(2, input, place),
-            Refusal::UnknownKind { input, place } => at(3, input, place),
-            Refusal::ImpossibleLength { input, place } => at(4, input, place),
-            Refusal::ImpossibleNumbers { input, place } => at(5, input, place),
-            Refusal::ImpossibleRequest => plain(5),
-            Refusal::UnwantedKind { input, place } => at(6, input, place),
-            Refusal::BytesAfter { input, place } => at(6, input, place),
-            Refusal::OtherNumbers { input, place } => at(7, input, place),
-            Refusal::WrongRoot { input, place } => at(8, input, place),
-            Refusal::NoCollision { input } => at(8, input, 0),
-            Refusal::TooLong { input } => at(9, input, 0),
-            Refusal::StoreFull => plain(10),
-            Refusal::FileFull => plain(10),
-            Refusal::OutputShort => plain(10),
-            Refusal::TooFewCells => plain(10),
-            Refusal::StackFull => plain(10),
-            Refusal::EqualMessages => plain(11),
-            Refusal::UnequalDigests => plain(11),
-            Refusal::EqualPapers => plain(11),
+            Refusal::MadeOverLeaves => about(1, NOWHERE),
+            Refusal::CutShort(site) => about(2, site),
+            Refusal::UnknownKind(site) => about(3, site),
+            Refusal::ImpossibleLength(site) => about(4, site),
+            Refusal::ImpossibleNumbers(site) => about(5, site),
+            Refusal::ImpossibleRequest => about(5, NOWHERE),
+            Refusal::UnwantedKind(site) | Refusal::BytesAfter(site) => about(6, site),
+            Refusal::OtherNumbers(site) => about(7, site),
+            Refusal::WrongRoot(site) => about(8, site),
+            Refusal::NoCollision { input } => about(8, Site::start_of(input)),
+            Refusal::TooLong { input } => about(9, Site::start_of(input)),
+            Refusal::StoreFull
+            | Refusal::FileFull
+            | Refusal::OutputShort
+            | Refusal::TooFewCells
+            | Refusal::StackFull => about(10, NOWHERE),
+            Refusal::EqualMessages | Refusal::UnequalDigests | Refusal::EqualPapers => {
+                about(11, NOWHERE)
+            }
         }
     }
 }
 
-fn at(number: u8, input: u8, place: usize) -> Returned
-    ensures { result ≡ record { number = number; input = input; place = place } }
+fn about(number: u8, site: Site) -> Returned
+    ensures { result ≡ about number site }
 {
     Returned {
         number,
-        input,
-        place,
+        input: site.input,
+        place: site.place,
     }
 }
 
-// A refusal that is about no input.
-fn plain(number: u8) -> Returned
-    ensures { result ≡ record { number = number; input = 0; place = 0 } }
+impl fmt::Display for Returned {
+    ghost output = { λ r. Some (returned_text r) };
+
+    fn fmt<W: fmt::Write>(&self, f: &mut fmt::Formatter<W>) -> fmt::Result {
+        let (number, input, place) = (self.number, self.input, self.place);
+        write!(f, "refused {number} input {input} place {place}")
+    }
+}
+
+// What has to hold, or the call is refused.
+pub fn must(ok: bool, refusal: Refusal) -> Result<(), Refusal>
+    ensures { result ≡ must ok refusal }
 {
-    at(number, 0, 0)
+    if ok { Ok(()) } else { Err(refusal) }
 }

@@ -4,25 +4,19 @@ ghost use Rattle.refusal.specs.Refusals.{must};
 ghost use Rattle.refusal.specs.declared.Refusal.TheVariants.{OutputShort};
 ghost use Rattle.release_log.specs.Buffers.{enough};
 
-use refusal::Refusal;
+use refusal::{Refusal, must};
 use roots::range::CELLS;
 
 // Stack cells for a call that works out or rebuilds roots, paths or links.
 pub fn enough(cells: usize) -> Result<(), Refusal>
     ensures { result ≡ enough cells }
 {
-    if cells < CELLS {
-        return Err(Refusal::TooFewCells);
-    }
-    Ok(())
+    must(cells >= CELLS, Refusal::TooFewCells)
 }
 
 // An output of `out` bytes has to take a record of `len`.
 pub fn fits(len: usize, out: usize) -> Result<(), Refusal>
     ensures { result ≡ must (nat_le len out) OutputShort }
 {
-    if out < len {
-        return Err(Refusal::OutputShort);
-    }
-    Ok(())
+    must(len <= out, Refusal::OutputShort)
 }

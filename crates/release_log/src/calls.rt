@@ -1,7 +1,7 @@
 // What a log does.
 ghost use Rattle.std.specs.Prelude.{◌≡◌, ℕ, min, List, length, ◌==◌};
 ghost use Rattle.hash.specs.Hash.{from_zeros};
-ghost use Rattle.refusal.specs.Refusals.{must};
+ghost use Rattle.refusal.specs.Refusals.{given};
 ghost use Rattle.refusal.specs.declared.Refusal.TheVariants.{MadeOverLeaves};
 ghost use Rattle.release_log.specs.Buffers.{length_of, output_after};
 ghost use Rattle.release_log.specs.Logs.{append_answer, head_answer, prove_answer, link_answer, log_after, file_after};
@@ -16,7 +16,7 @@ use record::heads::Head;
 use record::kinds::Kind;
 use record::sizes::{entry_len, head_len};
 use record::write::{write_entry, write_head, write_header};
-use refusal::Refusal;
+use refusal::{Refusal, must};
 use roots::range::{Subtree, range_root};
 use store::Store;
 use tree::digests::leaf;
@@ -28,12 +28,11 @@ impl<C: Compression, S: Store + Leaves<Item = C::Value>> Log<S, C> {
     pub fn new(store: S, compression: C) -> Log<S, C>
         ensures state { state_of S.Leaves.items S.Store.space result ≡ record { opened = (length (S.Leaves.items store) == 0); leaves = S.Leaves.items store; room = S.Store.space store; used = 0 } }
     {
-        let opened = store.count() == 0;
+        let used = (store.count() == 0).then_some(0);
         Log {
             store,
             compression,
-            opened,
-            used: 0,
+            used,
         }
     }
 
@@ -43,15 +42,13 @@ impl<C: Compression, S: Store + Leaves<Item = C::Value>> Log<S, C> {
         ensures state { state_of S.Leaves.items S.Store.space self.new ≡ log_after (from_zeros C.Value.Words.width C.Compression.f) (state_of S.Leaves.items S.Store.space self.old) entry.now (append_answer (from_zeros C.Value.Words.width C.Compression.f) (state_of S.Leaves.items S.Store.space self.old) (length file.old) entry.now) }
         ensures file { file.new ≡ file_after (from_zeros C.Value.Words.width C.Compression.f) (state_of S.Leaves.items S.Store.space self.old) entry.now (append_answer (from_zeros C.Value.Words.width C.Compression.f) (state_of S.Leaves.items S.Store.space self.old) (length file.old) entry.now) file.old }
     {
-        self.open()?;
+        let used = self.open()?;
         let digest = leaf(&self.compression, 1, entry)?;
         let len = entry_len(entry.len());
-        if file.len() < self.used || file.len() - self.used < len {
-            return Err(Refusal::FileFull);
-        }
+        must(len <= file.len().saturating_sub(used), Refusal::FileFull)?;
         let i = self.store.append(digest)?;
-        write_entry(entry, file, self.used);
-        self.used += len;
+        write_entry(entry, file, used);
+        self.used = Some(used + len);
         Ok(i)
     }
 
@@ -67,12 +64,10 @@ impl<C: Compression, S: Store + Leaves<Item = C::Value>> Log<S, C> {
     {
         self.open()?;
         enough(cells.len())?;
-        let Some(root) = range_root(&self.compression, &self.store, 0, n as usize, cells) else {
-            return Err(Refusal::ImpossibleRequest);
-        };
-        let Some(head) = Head::new(n, root) else {
-            return Err(Refusal::ImpossibleRequest);
-        };
+        let root = range_root(&self.compression, &self.store, 0, n as usize, cells).ok_or(
+            Refusal::ImpossibleRequest,
+        )?;
+        let head = Head::new(n, root).ok_or(Refusal::ImpossibleRequest)?;
         fits(head_len::<C::Value>(), out.len())?;
         write_head(head, out, 0);
         Ok(head_len::<C::Value>())
@@ -152,12 +147,10 @@ impl<C: Compression, S: Store + Leaves<Item = C::Value>> Log<S, C> {
         Ok(4 + payload)
     }
 
-    fn open(&self) -> Result<(), Refusal>
-        ensures { result ≡ must self.now.opened MadeOverLeaves }
+    // How many bytes of the entry file are used, if the log is opened.
+    fn open(&self) -> Result<usize, Refusal>
+        ensures { result ≡ given self.now.used MadeOverLeaves }
     {
-        if !self.opened {
-            return Err(Refusal::MadeOverLeaves);
-        }
-        Ok(())
+        self.used.ok_or(Refusal::MadeOverLeaves)
     }
 }

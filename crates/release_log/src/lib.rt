@@ -6,11 +6,10 @@ mod calls;
 mod questions;
 
 // The store keeps the leaf digests. Of the entry file, which is lent to each append, `used` bytes are used. A log that
-// was made over a store with leaves is not opened.
+// was made over a store with leaves is not opened: it has none.
 #[derive(Drop)]
 pub struct Log<S, C> {
     store: S,
     compression: C,
-    opened: bool,
-    used: usize,
+    used: Option<usize>,
 }

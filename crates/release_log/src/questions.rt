@@ -2,6 +2,7 @@
 ghost use Rattle.std.specs.Prelude.{◌≡◌, ℕ, List, length};
 ghost use Rattle.std.specs.Option.{option_map};
 ghost use Rattle.std.specs.List.{slice_get};
+ghost use Rattle.release_log.specs.States.{used_of};
 
 use crate::Log;
 use cipher::words::Words;
@@ -38,8 +39,8 @@ impl<C: Compression, S: Store + Leaves<Item = C::Value>> Log<S, C> {
 
     // How many bytes of the entry file are used.
     pub fn used(&self) -> usize
-        ensures { result ≡ self.now.used }
+        ensures { result ≡ used_of self.now.used }
     {
-        self.used
+        self.used.unwrap_or(0)
     }
 }

@@ -1,5 +1,5 @@
 -- The leaf records of an image, one by one and after a write. Assumes nothing.
-use Rattle.std.proofs.Common.{◌≡◌, ℕ, zero, suc, ◌+◌, ◌/◌, ◌<◌, ◌≤◌, cond, ltb, [], ◌∷◌, ◌++◌, map, length, take, drop, Some, None, sym, refl, ap, ◌∙◌, ap₂, append_assoc, mul-le-mul_left, mul-suc, add-one, arith, length-append, length-drop}
+use Rattle.std.proofs.Common.{◌≡◌, ℕ, zero, suc, ◌+◌, ◌<◌, ◌≤◌, cond, ltb, [], ◌∷◌, ◌++◌, map, length, take, drop, Some, None, sym, refl, ap, ◌∙◌, ap₂, append_assoc, mul-le-mul_left, mul-suc, add-one, arith, length-append, length-drop}
 use native.Mathlib.Nat.{mul-div-le}
 use lib.ListN.{length-map}
 use Rattle.std.proofs.lemmas.List.{take_at, drop-take, drop-drop, length-take-le, map_push}
@@ -14,10 +14,9 @@ use Rattle.hash.proofs.Padded.{length_cut, nth_cut}
 use Rattle.tree.specs.Digests.{Digests}
 use Rattle.record.specs.Records.{spelled, leaf}
 use Rattle.record.proofs.Lengths.{length_leaf}
-use Rattle.record.proofs.Writing.{length_written}
-use Rattle.store.specs.Stores.{items_after, space_after, most_of, kept_of, space_of}
-use Rattle.store.specs.Images.{record_size, record_at, places_in, records_in, leaves_in}
-use Rattle.store.proofs.Rooms.{kept_places, room_other, room_kept, room_space}
+use Rattle.store.specs.Stores.{items_after, space_of}
+use Rattle.store.specs.LeafRecords.{record_size, record_at, places_in, records_in, leaves_in}
+use Rattle.store.proofs.Rooms.{room_other, room_place}
 use Rattle.store.proofs.Cuts.{nth_map, cut_written}
 
 -- a leaf record ends with its digest
@@ -37,9 +36,8 @@ module _ (w : ℕ) where
   record_fits k bs h = omega (arith, records_fit (suc k) bs h, next_record k)
 
   module _ (n : ℕ) (bs : Bytes) where
-    pub length_leaves : length (leaves_in w n bs) ≡ kept_of n (places_in w bs)
-    length_leaves =
-        length-map (cut (record_size w) (kept_of n (places_in w bs)) bs) (drop 4) ∙ length_cut (record_size w) (kept_of n (places_in w bs)) bs
+    pub length_leaves : length (leaves_in w n bs) ≡ n
+    length_leaves = length-map (cut (record_size w) n bs) (drop 4) ∙ length_cut (record_size w) n bs
 
     -- each has w bytes
     wide_cut : (c : ℕ) (xs : Bytes) → record_at w c ≤ length xs → Digests w (map (drop 4) (cut (record_size w) c xs))
@@ -50,62 +48,48 @@ module _ (w : ℕ) where
           wide_cut c (drop (record_size w) xs) (omega (arith, length-drop (record_size w) xs)),
         )
 
-    pub wide_leaves : Digests w (leaves_in w n bs)
-    wide_leaves = wide_cut (kept_of n (places_in w bs)) bs (records_fit (kept_of n (places_in w bs)) bs (kept_places n (places_in w bs)))
+    pub wide_leaves : n ≤ places_in w bs → Digests w (leaves_in w n bs)
+    wide_leaves h = wide_cut n bs (records_fit n bs h)
 
-    pub leaf_at : (i : ℕ) → i < kept_of n (places_in w bs) → slice_get (leaves_in w n bs) i ≡ Some (take w (drop (record_at w i + 4) bs))
+    pub leaf_at : (i : ℕ) → i < n → slice_get (leaves_in w n bs) i ≡ Some (take w (drop (record_at w i + 4) bs))
     leaf_at i h =
-        nth_map (drop 4) (cut (record_size w) (kept_of n (places_in w bs)) bs) i
-        ∙ ap (option_map (drop 4)) (nth_cut (record_size w) (kept_of n (places_in w bs)) bs i h)
+        nth_map (drop 4) (cut (record_size w) n bs) i
+        ∙ ap (option_map (drop 4)) (nth_cut (record_size w) n bs i h)
         ∙ ap Some (drop-take 4 w (drop (record_at w i) bs) ∙ ap (take w) (drop-drop 4 (record_at w i) bs))
 
-    pub leaf_past : (i : ℕ) → kept_of n (places_in w bs) ≤ i → slice_get (leaves_in w n bs) i ≡ None
+    pub leaf_past : (i : ℕ) → n ≤ i → slice_get (leaves_in w n bs) i ≡ None
     leaf_past i h = slice_get_past (leaves_in w n bs) i (omega (arith, length_leaves))
 
     -- new: the same bytes with a record written behind the others
-    module _ (k : ℕ) (e : k ≡ kept_of n (places_in w bs)) (h : k < most_of (places_in w bs)) (d : Bytes) (l : length d ≡ w)
-        (i : ℕ) (j : i ≡ record_at w k) (new : Bytes) (f : new ≡ stored i (spelled (leaf d)) bs) where
+    module _ (h : 0 < space_of n (places_in w bs)) (d : Bytes) (l : length d ≡ w)
+        (i : ℕ) (j : i ≡ record_at w n) (new : Bytes) (f : new ≡ stored i (spelled (leaf d)) bs) where
       size : length (spelled (leaf d)) ≡ record_size w
       size = length_leaf w d l
 
-      fits : record_at w k + length (spelled (leaf d)) ≤ length bs
-      fits = omega (arith, size, record_fits k bs (omega arith))
+      fits : record_at w n + length (spelled (leaf d)) ≤ length bs
+      fits = omega (arith, size, record_fits n bs (room_place n (places_in w bs) h))
 
-      behind : new ≡ written (record_at w k) (spelled (leaf d)) bs
-      behind = f ∙ ap (λ (m : ℕ). stored m (spelled (leaf d)) bs) j ∙ stored_there (record_at w k) (spelled (leaf d)) bs fits
+      behind : new ≡ written (record_at w n) (spelled (leaf d)) bs
+      behind = f ∙ ap (λ (m : ℕ). stored m (spelled (leaf d)) bs) j ∙ stored_there (record_at w n) (spelled (leaf d)) bs fits
 
-      places : places_in w new ≡ places_in w bs
-      places = ap (λ (m : ℕ). m / record_size w) (ap length behind ∙ length_written (record_at w k) (spelled (leaf d)) bs fits)
-
-      kept : kept_of (k + 1) (places_in w new) ≡ k + 1
-      kept = ap (kept_of (k + 1)) places ∙ room_kept n (places_in w bs) k e h
-
-      pub leaves_after : leaves_in w (k + 1) new ≡ items_after (leaves_in w n bs) (space_of n (places_in w bs)) d
+      pub leaves_after : leaves_in w (n + 1) new ≡ items_after (leaves_in w n bs) (space_of n (places_in w bs)) d
       leaves_after =
-          ap₂ (λ (m : ℕ) (x : Bytes). map (drop 4) (cut (record_size w) m x)) (kept ∙ add-one k) behind
-          ∙ ap (map (drop 4)) (cut_written (record_size w) k (spelled (leaf d)) bs size (omega (arith, fits)))
-          ∙ map_push (drop 4) (cut (record_size w) k bs) (spelled (leaf d))
-          ∙ ap₂ (λ (m : ℕ) (x : Bytes). map (drop 4) (cut (record_size w) m bs) ++ x ∷ []) e (leaf_digest_is d)
-          ∙ room_other n (places_in w bs) k e h (leaves_in w n bs ++ d ∷ []) (leaves_in w n bs)
+          ap₂ (λ (m : ℕ) (x : Bytes). map (drop 4) (cut (record_size w) m x)) (add-one n) behind
+          ∙ ap (map (drop 4)) (cut_written (record_size w) n (spelled (leaf d)) bs size (omega (arith, fits)))
+          ∙ map_push (drop 4) (cut (record_size w) n bs) (spelled (leaf d))
+          ∙ ap (λ (x : Bytes). map (drop 4) (cut (record_size w) n bs) ++ x ∷ []) (leaf_digest_is d)
+          ∙ room_other n (places_in w bs) h (leaves_in w n bs ++ d ∷ []) (leaves_in w n bs)
 
-      pub places_after : space_of (k + 1) (places_in w new) ≡ space_after (space_of n (places_in w bs))
-      places_after = ap (space_of (k + 1)) places ∙ room_space n (places_in w bs) k e h
-
-      pub records_after : records_in w (k + 1) new
+      pub records_after : records_in w (n + 1) new
           ≡ cond (ltb 0 (space_of n (places_in w bs))) (records_in w n bs ++ spelled (leaf d)) (records_in w n bs)
       records_after =
-          let front : Bytes = take (record_at w k) bs in
-          let rest : Bytes = drop (record_at w k + length (spelled (leaf d))) bs in
-          let long : length (front ++ spelled (leaf d)) ≡ record_at w (k + 1) =
-          omega (arith, length-append front (spelled (leaf d)), length-take-le (record_at w k) bs (omega (arith, fits)), size, next_record k, ap (record_at w) (add-one k)) in
-          ap₂ (λ (m : ℕ) (x : Bytes). take (record_at w m) x) kept behind
-          ∙ ap (take (record_at w (k + 1))) (sym (append_assoc front (spelled (leaf d)) rest))
-          ∙ take_at (front ++ spelled (leaf d)) rest (record_at w (k + 1)) long
-          ∙ ap (λ (m : ℕ). take (record_at w m) bs ++ spelled (leaf d)) e
-          ∙ room_other n (places_in w bs) k e h (records_in w n bs ++ spelled (leaf d)) (records_in w n bs)
+          let front : Bytes = take (record_at w n) bs in
+          let rest : Bytes = drop (record_at w n + length (spelled (leaf d))) bs in
+          let long : length (front ++ spelled (leaf d)) ≡ record_at w (n + 1) =
+          omega (arith, length-append front (spelled (leaf d)), length-take-le (record_at w n) bs (omega (arith, fits)), size, next_record n, ap (record_at w) (add-one n)) in
+          ap (take (record_at w (n + 1))) (behind ∙ sym (append_assoc front (spelled (leaf d)) rest))
+          ∙ take_at (front ++ spelled (leaf d)) rest (record_at w (n + 1)) long
+          ∙ room_other n (places_in w bs) h (records_in w n bs ++ spelled (leaf d)) (records_in w n bs)
 
-      pub bytes_after_are : new ≡ cond (ltb 0 (space_of n (places_in w bs))) (written (record_at w (kept_of n (places_in w bs))) (spelled (leaf d)) bs) bs
-      bytes_after_are =
-          behind
-          ∙ ap (λ (m : ℕ). written (record_at w m) (spelled (leaf d)) bs) e
-          ∙ room_other n (places_in w bs) k e h (written (record_at w (kept_of n (places_in w bs))) (spelled (leaf d)) bs) bs
+      pub bytes_after_are : new ≡ cond (ltb 0 (space_of n (places_in w bs))) (written (record_at w n) (spelled (leaf d)) bs) bs
+      bytes_after_are = behind ∙ room_other n (places_in w bs) h (written (record_at w n) (spelled (leaf d)) bs) bs

@@ -1,4 +1,3 @@
 pub mod Rooms
-pub mod Cells
 pub mod Cuts
 pub mod LeafRecords

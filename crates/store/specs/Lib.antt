@@ -1,3 +1,4 @@
 pub mod Stores
 pub mod Tables
+pub mod LeafRecords
 pub mod Images

@@ -23,10 +23,6 @@ space_after s = s - 1
 abbrev pub most_of : ℕ → ℕ
 most_of p = min p largest
 
--- how many it has where it counts n: no more than it takes
-abbrev pub kept_of : ℕ → ℕ → ℕ
-kept_of n p = min n (most_of p)
-
--- how many more it takes where it counts n
+-- how many more it takes where it has n
 abbrev pub space_of : ℕ → ℕ → ℕ
 space_of n p = most_of p - n

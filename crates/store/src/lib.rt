@@ -9,6 +9,7 @@ use cipher::words::Words;
 use refusal::Refusal;
 use tree::leaves::Leaves;
 
+// An image and a table are two structs, since each promises in its own words what an append does to what it was lent.
 pub mod image;
 mod places;
 pub mod table;

@@ -1,6 +1,6 @@
-// How many digests a store with so many places has and takes.
+// How many digests a store with so many places takes.
 ghost use Rattle.std.specs.Prelude.{◌≡◌};
-ghost use Rattle.store.specs.Stores.{most_of, kept_of};
+ghost use Rattle.store.specs.Stores.{most_of};
 
 use tree::spans::LARGEST;
 
@@ -9,11 +9,4 @@ pub(crate) fn most(places: usize) -> usize
     ensures { result ≡ most_of places }
 {
     places.min(LARGEST)
-}
-
-// How many it has where it counts `count`.
-pub(crate) fn kept(count: usize, places: usize) -> usize
-    ensures { result ≡ kept_of count places }
-{
-    count.min(most(places))
 }

@@ -1,6 +1,6 @@
-use Rattle.std.proofs.Common.{ℕ, ◌≤◌, Bool, leb, length, sym, ap, ◌∙◌}
+use Rattle.std.proofs.Common.{ℕ, ◌≤◌, leb, length, sym, ◌∙◌}
 use Rattle.hash.specs.Hash.{from_zeros}
-use Rattle.refusal.specs.Refusals.{must}
+use Rattle.refusal.specs.Refusals.{site, must}
 use Rattle.refusal.specs.declared.Refusal.TheVariants.{TooFewCells, OtherNumbers, WrongRoot}
 use Rattle.refusal.proofs.Doing.{must_last, through, bound}
 use Rattle.release_log.proofs.Fitting.{leb_from}
@@ -18,8 +18,8 @@ returns g c =
     let some = must_last (leb 21 cells) TooFewCells (sym c.in_ok-enough.ensures) in
     let enough : 21 ≤ cells = leb_from 21 cells TooFewCells c.in_ok-enough.ensures in
     let read = sym c.in_ok-link.ensures.answer in
+    let roots = link_roots_are F cells enough l.old l.new l.digests.now (link_read w 3 c.args.link.now (link_of w l) read).0 c.in_ok-link.ensures.whole
+    (g.C.Value.Words.bytes c.in_ok-old.old.root) (g.C.Value.Words.bytes c.in_ok-new.new.root) in
     c.linked.ensures
-    ∙ ap (λ (t : Bool). must t (WrongRoot 3 0))
-    (link_roots_are F cells enough l.old l.new l.digests.now (link_read w 3 c.args.link.now (link_of w l) read).0 c.in_ok-link.ensures.whole
-    (g.C.Value.Words.bytes c.in_ok-old.old.root) (g.C.Value.Words.bytes c.in_ok-new.new.root))
-    ∙ sym (through TooFewCells _ some ∙ bound _ (sym c.in_ok-old.ensures) ∙ bound _ (sym c.in_ok-new.ensures) ∙ bound _ read ∙ through (OtherNumbers 3 0) _ (sym c.joins.ensures ∙ must_last c.joins.result (OtherNumbers 3 0) (sym c.in_ok-same_numbers.ensures)))
+    ∙ (λ j. must (roots j) (WrongRoot (c.start_of-site.ensures j)))
+    ∙ sym (through TooFewCells _ some ∙ bound _ (sym c.in_ok-old.ensures) ∙ bound _ (sym c.in_ok-new.ensures) ∙ bound _ read ∙ through (OtherNumbers (site 3 0)) _ (sym c.joins.ensures ∙ must_last c.joins.result _ (sym c.in_ok-must.ensures)))

@@ -1,10 +1,10 @@
-use Rattle.std.proofs.Common.{ℕ, ◌≤◌, Bool, eqb, leb, length, Err, sym, ap, ◌∙◌}
+use Rattle.std.proofs.Common.{ℕ, ◌≤◌, eqb, leb, length, Err, sym, ap, ◌∙◌}
 use Rattle.std.specs.Str.{bytes_eq}
 use Rattle.std.proofs.lemmas.Result.{err_from_is_err_and}
 use Rattle.hash.specs.Hash.{from_zeros}
 use Rattle.hash.specs.Collisions.{Bytes}
 use Rattle.tree.specs.Digests.{rebuilt}
-use Rattle.refusal.specs.Refusals.{must}
+use Rattle.refusal.specs.Refusals.{site, must}
 use Rattle.refusal.specs.declared.Refusal.TheVariants.{TooFewCells, TooLong, OtherNumbers, WrongRoot}
 use Rattle.refusal.proofs.Doing.{must_last, through, bound}
 use Rattle.release_log.proofs.Fitting.{leb_from}
@@ -35,10 +35,10 @@ returns g c =
     let enough : 21 ≤ cells = leb_from 21 cells TooFewCells c.in_ok-enough.ensures in
     let leaf = leaf_ok F 2 e (g.C.Value.Words.bytes c.in_ok-leaf.leaf) c.in_ok-leaf.ensures in
     let read = sym c.in_ok-proof.ensures.answer in
-    let same = must_last (eqb p.size c.size.result) (OtherNumbers 3 0) (sym c.in_ok-same_numbers.ensures) in
-    c.proven.ensures
-    ∙ ap (λ (t : Bool). must t (WrongRoot 3 0))
-    (path_root_is F cells enough p.index p.size p.path.now (proof_read w 3 c.args.proof.now (proof_of w p) read).0 c.in_ok-proof.ensures.whole
+    let same = must_last (eqb p.size c.size.result) _ (sym c.in_ok-must.ensures) in
+    let roots = path_root_is F cells enough p.index p.size p.path.now (proof_read w 3 c.args.proof.now (proof_of w p) read).0 c.in_ok-proof.ensures.whole
     (g.C.Value.Words.bytes c.in_ok-leaf.leaf) (g.C.Value.Words.bytes h.root)
-    ∙ ap (λ (d : Bytes). bytes_eq (rebuilt F p.index p.size d (digests_in w p.path.now)) (g.C.Value.Words.bytes h.root)) leaf.1)
-    ∙ sym (through TooFewCells _ some ∙ bound _ (sym c.in_ok-head.ensures) ∙ through (TooLong 2) _ leaf.0 ∙ bound _ read ∙ through (OtherNumbers 3 0) _ (ap (eqb p.size) (sym c.size.ensures.0) ∙ same))
+    ∙ ap (λ (d : Bytes). bytes_eq (rebuilt F p.index p.size d (digests_in w p.path.now)) (g.C.Value.Words.bytes h.root)) leaf.1 in
+    c.proven.ensures
+    ∙ (λ j. must (roots j) (WrongRoot (c.start_of-site.ensures j)))
+    ∙ sym (through TooFewCells _ some ∙ bound _ (sym c.in_ok-head.ensures) ∙ through (TooLong 2) _ leaf.0 ∙ bound _ read ∙ through (OtherNumbers (site 3 0)) _ (ap (eqb p.size) (sym c.size.ensures.0) ∙ same))

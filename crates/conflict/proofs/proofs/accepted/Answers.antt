@@ -1,11 +1,11 @@
-use Rattle.std.proofs.Common.{◌≡◌, ℕ, ◌≤◌, Bool, true, ◌&&◌, eqb, leb, length, Err, sym, ap, ◌∙◌, arith}
+use Rattle.std.proofs.Common.{◌≡◌, ℕ, ◌≤◌, true, ◌&&◌, eqb, leb, length, Err, sym, ap, ◌∙◌, arith}
 use Rattle.std.specs.Str.{bytes_eq}
 use Rattle.std.specs.Result.{result_map_both}
 use Rattle.std.proofs.lemmas.Result.{err_from_is_err_and}
 use Rattle.hash.specs.Hash.{from_zeros}
 use Rattle.hash.specs.Collisions.{Bytes}
 use Rattle.tree.specs.Digests.{rebuilt}
-use Rattle.refusal.specs.Refusals.{must}
+use Rattle.refusal.specs.Refusals.{site, must}
 use Rattle.refusal.specs.declared.Refusal.{Refusal}
 use Rattle.refusal.specs.declared.Refusal.TheVariants.{TooFewCells, TooLong, OtherNumbers, WrongRoot}
 use Rattle.refusal.proofs.Doing.{must_last, through, bound}
@@ -64,9 +64,9 @@ returns-in_err-proven g c =
     let q = c.in_ok-second.second in
     let read = sym c.in_ok-first.ensures.answer in
     let read' = sym c.in_ok-second.ensures.answer in
-    let size : eqb p.size h.size ≡ true = ap (eqb p.size) (sym c.size.ensures.0) ∙ must_last (eqb p.size c.size.result) (OtherNumbers 3 0) (sym c.in_ok-same_numbers.ensures) in
+    let size : eqb p.size h.size ≡ true = ap (eqb p.size) (sym c.size.ensures.0) ∙ must_last (eqb p.size c.size.result) _ (sym c.in_ok-must.ensures) in
     let size' : (eqb q.size h.size && eqb q.index p.index) ≡ true =
-    ap (λ (n : ℕ). eqb q.size n && eqb q.index p.index) (sym c.size-2.ensures.0) ∙ sym c.same_leaf.ensures ∙ must_last c.same_leaf.result (OtherNumbers 5 0) (sym c.in_ok-same_numbers-2.ensures) in
+    ap (λ (n : ℕ). eqb q.size n && eqb q.index p.index) (sym c.size-2.ensures.0) ∙ sym c.same_leaf.ensures ∙ must_last c.same_leaf.result _ (sym c.in_ok-must-2.ensures) in
     let first =
     path_root_is F cells enough p.index p.size p.path.now (proof_read w 3 c.args.proof.now (proof_of w p) read).0 c.in_ok-first.ensures.whole (b c.in_ok-x.x) (b h.root)
     ∙ ap (λ (z : Bytes). bytes_eq (rebuilt F p.index p.size z (digests_in w p.path.now)) (b h.root)) x.1 in
@@ -74,8 +74,8 @@ returns-in_err-proven g c =
     record {
       answer = ap (result_map_both (two_proofs_of w) (λ (z : Refusal). z)) r.1 ∙ ap (λ (z : Refusal). Err z) r.2
           ∙ sym (through TooFewCells _ some ∙ bound _ (sym c.in_ok-h.ensures) ∙ through (TooLong 2) _ x.0 ∙ bound _ read ∙ through (TooLong 4) _ y.0 ∙ bound _ read'
-          ∙ through (OtherNumbers 3 0) _ size ∙ through (OtherNumbers 5 0) _ size'
-          ∙ stopped _ (sym (c.in_err-proven.ensures ∙ ap (λ (z : Bool). must z (WrongRoot 3 0)) first)));
+          ∙ through (OtherNumbers (site 3 0)) _ size ∙ through (OtherNumbers (site 5 0)) _ size'
+          ∙ stopped _ (sym (c.in_err-proven.ensures ∙ (λ j. must (first j) (WrongRoot (c.start_of-3.ensures j))))));
       whole = rw r.1 tt;
     }
 
@@ -96,9 +96,9 @@ returns-in_err-proven-2 g c =
     let q = c.in_ok-second.second in
     let read = sym c.in_ok-first.ensures.answer in
     let read' = sym c.in_ok-second.ensures.answer in
-    let size : eqb p.size h.size ≡ true = ap (eqb p.size) (sym c.size.ensures.0) ∙ must_last (eqb p.size c.size.result) (OtherNumbers 3 0) (sym c.in_ok-same_numbers.ensures) in
+    let size : eqb p.size h.size ≡ true = ap (eqb p.size) (sym c.size.ensures.0) ∙ must_last (eqb p.size c.size.result) _ (sym c.in_ok-must.ensures) in
     let size' : (eqb q.size h.size && eqb q.index p.index) ≡ true =
-    ap (λ (n : ℕ). eqb q.size n && eqb q.index p.index) (sym c.size-2.ensures.0) ∙ sym c.same_leaf.ensures ∙ must_last c.same_leaf.result (OtherNumbers 5 0) (sym c.in_ok-same_numbers-2.ensures) in
+    ap (λ (n : ℕ). eqb q.size n && eqb q.index p.index) (sym c.size-2.ensures.0) ∙ sym c.same_leaf.ensures ∙ must_last c.same_leaf.result _ (sym c.in_ok-must-2.ensures) in
     let first =
     path_root_is F cells enough p.index p.size p.path.now (proof_read w 3 c.args.proof.now (proof_of w p) read).0 c.in_ok-first.ensures.whole (b c.in_ok-x.x) (b h.root)
     ∙ ap (λ (z : Bytes). bytes_eq (rebuilt F p.index p.size z (digests_in w p.path.now)) (b h.root)) x.1 in
@@ -112,9 +112,9 @@ returns-in_err-proven-2 g c =
     record {
       answer = ap (result_map_both (two_proofs_of w) (λ (z : Refusal). z)) r.1 ∙ ap (λ (z : Refusal). Err z) r.2
           ∙ sym (through TooFewCells _ some ∙ bound _ (sym c.in_ok-h.ensures) ∙ through (TooLong 2) _ x.0 ∙ bound _ read ∙ through (TooLong 4) _ y.0 ∙ bound _ read'
-          ∙ through (OtherNumbers 3 0) _ size ∙ through (OtherNumbers 5 0) _ size'
-          ∙ through (WrongRoot 3 0) _ (sym first ∙ must_last _ (WrongRoot 3 0) (sym c.in_ok-proven.ensures))
-          ∙ stopped _ (sym (c.in_err-proven-2.ensures ∙ ap (λ (z : Bool). must z (WrongRoot 5 0)) second)));
+          ∙ through (OtherNumbers (site 3 0)) _ size ∙ through (OtherNumbers (site 5 0)) _ size'
+          ∙ through (WrongRoot (site 3 0)) _ (sym first ∙ must_last _ _ (sym c.in_ok-proven.ensures))
+          ∙ stopped _ (sym (c.in_err-proven-2.ensures ∙ (λ j. must (second j) (WrongRoot (c.start_of-4.ensures j))))));
       whole = rw r.1 tt;
     }
 
@@ -135,9 +135,9 @@ returns g c =
     let q = c.in_ok-second.second in
     let read = sym c.in_ok-first.ensures.answer in
     let read' = sym c.in_ok-second.ensures.answer in
-    let size : eqb p.size h.size ≡ true = ap (eqb p.size) (sym c.size.ensures.0) ∙ must_last (eqb p.size c.size.result) (OtherNumbers 3 0) (sym c.in_ok-same_numbers.ensures) in
+    let size : eqb p.size h.size ≡ true = ap (eqb p.size) (sym c.size.ensures.0) ∙ must_last (eqb p.size c.size.result) _ (sym c.in_ok-must.ensures) in
     let size' : (eqb q.size h.size && eqb q.index p.index) ≡ true =
-    ap (λ (n : ℕ). eqb q.size n && eqb q.index p.index) (sym c.size-2.ensures.0) ∙ sym c.same_leaf.ensures ∙ must_last c.same_leaf.result (OtherNumbers 5 0) (sym c.in_ok-same_numbers-2.ensures) in
+    ap (λ (n : ℕ). eqb q.size n && eqb q.index p.index) (sym c.size-2.ensures.0) ∙ sym c.same_leaf.ensures ∙ must_last c.same_leaf.result _ (sym c.in_ok-must-2.ensures) in
     let first =
     path_root_is F cells enough p.index p.size p.path.now (proof_read w 3 c.args.proof.now (proof_of w p) read).0 c.in_ok-first.ensures.whole (b c.in_ok-x.x) (b h.root)
     ∙ ap (λ (z : Bytes). bytes_eq (rebuilt F p.index p.size z (digests_in w p.path.now)) (b h.root)) x.1 in
@@ -149,8 +149,8 @@ returns g c =
     ∙ ap (λ (z : Bytes). bytes_eq (rebuilt F q.index q.size z (digests_in w q.path.now)) (b h.root)) y.1 in
     record {
       answer = sym (through TooFewCells _ some ∙ bound _ (sym c.in_ok-h.ensures) ∙ through (TooLong 2) _ x.0 ∙ bound _ read ∙ through (TooLong 4) _ y.0 ∙ bound _ read'
-          ∙ through (OtherNumbers 3 0) _ size ∙ through (OtherNumbers 5 0) _ size'
-          ∙ through (WrongRoot 3 0) _ (sym first ∙ must_last _ (WrongRoot 3 0) (sym c.in_ok-proven.ensures))
-          ∙ through (WrongRoot 5 0) _ (sym second ∙ must_last _ (WrongRoot 5 0) (sym c.in_ok-proven-2.ensures)));
+          ∙ through (OtherNumbers (site 3 0)) _ size ∙ through (OtherNumbers (site 5 0)) _ size'
+          ∙ through (WrongRoot (site 3 0)) _ (sym first ∙ must_last _ _ (sym c.in_ok-proven.ensures))
+          ∙ through (WrongRoot (site 5 0)) _ (sym second ∙ must_last _ _ (sym c.in_ok-proven-2.ensures)));
       whole = (c.in_ok-first.ensures.whole, c.in_ok-second.ensures.whole);
     }

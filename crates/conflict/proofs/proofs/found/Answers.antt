@@ -1,17 +1,19 @@
-use Rattle.std.proofs.Common.{◌≡◌, ℕ, ◌≤◌, not, length, sym, ap, ◌∙◌, arith}
+use Rattle.std.proofs.Common.{◌≡◌, ℕ, ◌≤◌, not, length, Err, sym, ap, ◌∙◌, arith}
+use Rattle.std.specs.Option.{option_map}
+use Rattle.std.proofs.lemmas.Result.{err_from_is_err_and}
 use Rattle.hash.specs.Hash.{from_zeros}
 use Rattle.hash.specs.Collisions.{Bytes}
 use Rattle.refusal.specs.Refusals.{Answer}
 use Rattle.refusal.specs.declared.Refusal.TheVariants.{EqualPapers}
-use Rattle.refusal.proofs.Doing.{through, bound}
+use Rattle.refusal.proofs.Doing.{must_last, through, bound}
 use Rattle.release_log.specs.Buffers.{length_of, output_after}
-use Rattle.record.specs.Views.{proof_of}
+use Rattle.record.specs.Views.{proof_of, collision_of}
 use Rattle.conflict.specs.Conflicts.{pair_for, proofs_conflict, conflict_proofs_answer}
-use Rattle.conflict.proofs.Holding.{proofs_hold, proofs_pair_holds}
+use Rattle.conflict.proofs.Holding.{none_err, proofs_hold, proofs_pair_holds}
 use Rattle.conflict.proofs.proofs.found.Goals as goal
 
-pub returns-in_default : goal.returns-in_default
-returns-in_default g c =
+pub returns-in_err-pair : goal.returns-in_err-pair
+returns-in_err-pair g c =
     let w : ℕ = g.C.Value.Words.width in
     let b = g.C.Value.Words.bytes in
     let F = from_zeros w g.C.Compression.f in
@@ -30,9 +32,11 @@ returns-in_default g c =
     let whole = c.in_ok-two.ensures.whole in
     let is = proofs_pair_holds F later enough e d k.1.0 p.index p.size q.index q.size p.path.now q.path.now k.1.1 whole.0 whole.1 in
     let run : conflict_proofs_answer F cells (length out) c.args.head.now e c.args.proof.now d c.args.other_proof.now ≡ pair_for (length out) EqualPapers (proofs_conflict F e (proof_of w p) d (proof_of w q)) =
-    bound _ two ∙ through EqualPapers _ (ap not (sym c.both_same.ensures ∙ c.if-both_same.false)) in
-    let refused = run ∙ ap (pair_for (length out) EqualPapers) (sym is ∙ sym c.in_default.ensures) in
-    record { answer = sym (ap length_of refused); output = sym (ap (λ (a : Answer Bytes). output_after a out) refused) }
+    bound _ two ∙ through EqualPapers _ (ap not (sym c.both_same.ensures) ∙ must_last (not c.both_same.result) EqualPapers (sym c.in_ok-must.ensures)) in
+    let refused = run ∙ ap (pair_for (length out) EqualPapers) (sym is ∙ sym (ap (option_map (collision_of b)) (sym c.in_err-pair.ensures.ok_part) ∙ c.proofs_apart.ensures)) in
+    let r = err_from_is_err_and c.from_residual-in_err-pair.result c.from_residual-in_err-pair.ensures.1 in
+    let e = none_err EqualPapers c.in_err-pair.field-0.0 c.in_err-pair.ensures.value c.in_err-pair.ensures.ok_part in
+    record { answer = r.1 ∙ ap (λ z. Err z) (r.2 ∙ e) ∙ sym (ap length_of refused); output = sym (ap (λ (a : Answer Bytes). output_after a out) refused) }
 
 pub returns : goal.returns
 returns g c =
@@ -54,8 +58,8 @@ returns g c =
     let whole = c.in_ok-two.ensures.whole in
     let is = proofs_pair_holds F later enough e d k.1.0 p.index p.size q.index q.size p.path.now q.path.now k.1.1 whole.0 whole.1 in
     let run : conflict_proofs_answer F cells (length out) c.args.head.now e c.args.proof.now d c.args.other_proof.now ≡ pair_for (length out) EqualPapers (proofs_conflict F e (proof_of w p) d (proof_of w q)) =
-    bound _ two ∙ through EqualPapers _ (ap not (sym c.both_same.ensures ∙ c.if-both_same.false)) in
-    let wrote = run ∙ ap (pair_for (length out) EqualPapers) (sym is ∙ sym c.in-Some.ensures) in
+    bound _ two ∙ through EqualPapers _ (ap not (sym c.both_same.ensures) ∙ must_last (not c.both_same.result) EqualPapers (sym c.in_ok-must.ensures)) in
+    let wrote = run ∙ ap (pair_for (length out) EqualPapers) (sym is ∙ sym (ap (option_map (collision_of b)) (sym c.in_ok-pair.ensures.ok_part) ∙ c.proofs_apart.ensures)) in
     record {
       answer = c.write_pair.ensures.answer ∙ sym (ap length_of wrote);
       output = c.write_pair.ensures.output ∙ sym (ap (λ (a : Answer Bytes). output_after a out) wrote);

@@ -1,6 +1,5 @@
 use Rattle.std.proofs.Common.{arith}
-use Rattle.record.specs.Records.{spelled, leaf}
-use Rattle.record.proofs.Writing.{room, no_room, framed_put}
+use Rattle.record.proofs.Writing.{room, framed_put}
 use Rattle.record.proofs.write.write_leaf.Goals as goal
 
 pub returns-then-has_room : goal.returns-then-has_room
@@ -12,10 +11,3 @@ returns-then-has_room g c =
     let h = room i c.leaf_len.result xs c.has_room.result c.has_room.ensures c.if-has_room.true in
     framed_put 1 c.size.result i p xs c.write_header.new.into c.store.new.into c.write_header.ensures c.store.ensures
     (omega (arith, c.size.ensures)) (omega (arith, c.leaf_len.ensures.value))
-
-pub returns-else-has_room : goal.returns-else-has_room
-returns-else-has_room g c =
-    let p = g.D.Words.bytes c.args.digest in
-    let l = g.met.D.Words.sized c.args.digest in
-    no_room c.args.at c.leaf_len.result (spelled (leaf p)) c.args.into.now c.has_room.result c.has_room.ensures c.if-has_room.false
-    (c.leaf_len.ensures.spells p l)

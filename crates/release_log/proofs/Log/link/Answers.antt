@@ -10,12 +10,11 @@ use Rattle.refusal.specs.declared.Refusal.TheVariants.{MadeOverLeaves, TooFewCel
 use Rattle.tree.specs.Spans.{in_link, link_spans}
 use Rattle.paths.specs.Payloads.{link_size, link_payload, link_fits}
 use Rattle.record.specs.Records.{link, spelled}
-use Rattle.refusal.proofs.Doing.{must_last}
 use Rattle.record.proofs.Framing.{length_framed}
 use Rattle.release_log.specs.Buffers.{length_of, output_after}
 use Rattle.release_log.specs.Logs.{LogState, link_over, link_answer}
 use Rattle.release_log.specs.States.{state_of}
-use Rattle.release_log.proofs.Fitting.{must_err, leb_from, lt_from, fitting_ok, fitting_short}
+use Rattle.release_log.proofs.Fitting.{given_some, must_err, leb_from, lt_from, fitting_ok, fitting_short}
 use Rattle.release_log.proofs.Written.{recorded, fits_true, counted, link_some, asked_checked, length_linked}
 use Rattle.release_log.proofs.Log.link.Goals as goal
 
@@ -30,7 +29,7 @@ returns-in_err-fits g c =
     let cells : ℕ = min (length c.args.spans.now) (length c.args.cells.now) in
     let out : Bytes = c.args.out.now in
     let asked = counted (in_link m n) c.in-Some.digests (length (link_spans m n)) c.in-Some.ensures.count in
-    let started : l.opened ≡ true = must_last l.opened MadeOverLeaves (sym c.in_ok-open.ensures) in
+    let started : l.opened ≡ true = given_some c.args.self.now.used MadeOverLeaves _ c.in_ok-open.ensures in
     let lent : 21 ≤ c.min.result = leb_from 21 c.min.result TooFewCells c.in_ok-enough.ensures in
     let some : 21 ≤ cells = omega (arith, c.min.ensures) in
     let there : n ≤ length l.leaves = omega (arith, c.count.ensures.value, c.if-n-count.false) in
@@ -58,7 +57,7 @@ returns g c =
     let cells : ℕ = min (length c.args.spans.now) (length c.args.cells.now) in
     let out : Bytes = c.args.out.now in
     let asked = counted (in_link m n) c.in-Some.digests (length (link_spans m n)) c.in-Some.ensures.count in
-    let started : l.opened ≡ true = must_last l.opened MadeOverLeaves (sym c.in_ok-open.ensures) in
+    let started : l.opened ≡ true = given_some c.args.self.now.used MadeOverLeaves _ c.in_ok-open.ensures in
     let lent : 21 ≤ c.min.result = leb_from 21 c.min.result TooFewCells c.in_ok-enough.ensures in
     let some : 21 ≤ cells = omega (arith, c.min.ensures) in
     let there : n ≤ length l.leaves = omega (arith, c.count.ensures.value, c.if-n-count.false) in

@@ -1,9 +1,0 @@
-use Rattle.std.proofs.Common.{arith}
-use Rattle.record.proofs.Lengths.{length_leaf}
-use Rattle.record.proofs.sizes.leaf_len.Goals as goal
-
-pub returns : goal.returns
-returns g c = record {
-  value = omega (arith, c.size.ensures);
-  spells = λ x l. omega (arith, c.size.ensures, length_leaf g.D.Words.width x l);
-}
