@@ -6,6 +6,7 @@ pub mod Depth
 pub mod Complete
 pub mod Down
 pub mod Onward
+pub mod Sides
 pub mod Descent
 pub mod Stand
 pub mod Widths

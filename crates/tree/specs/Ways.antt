@@ -3,9 +3,11 @@ use Rattle.std.specs.Prelude.{◌≡◌, ℕ, ◌-◌, Bool, true, false, cond, 
 use Rattle.tree.specs.declared.spans.Span.{Span}
 use Rattle.tree.specs.declared.ways.Way.{Way}
 use Rattle.tree.specs.declared.ways.Way.TheVariants.{ToLeaf, ToEnd}
-use Rattle.tree.specs.Links.{sub}
+use Rattle.tree.specs.declared.ways.Side.{Side}
+use Rattle.tree.specs.declared.ways.Side.TheVariants.{Low, High, Through}
+use Rattle.tree.specs.Links.{sub, link_turns, kept}
 use Rattle.tree.specs.Spans.{span_of, path_spans, link_spans, in_tree, in_link}
-use Rattle.tree.specs.Tree.{shape_of, path}
+use Rattle.tree.specs.Tree.{shape_of, path, Turn, turns}
 
 -- whether there is such a way, and how many leaves its tree has
 abbrev pub in_way : Way → Bool
@@ -20,6 +22,19 @@ way_leaves (ToEnd m n) = n
 abbrev pub passes_low : Way → ℕ → Bool
 passes_low (ToLeaf i n) a = nat_lt i a
 passes_low (ToEnd m n) a = nat_le m a
+
+-- how it goes by a range: before it, after it, or through it
+abbrev pub side_of : Way → Span → Side
+side_of w s = cond (passes_low w s.from) Low (cond (passes_low w s.to) Through High)
+
+-- the turns from the root down, and whether it ends with a part that begins the tree or with a leaf, so that its digest is known
+abbrev pub way_turns : Way → List Turn
+way_turns (ToLeaf i n) = turns (shape_of n) i
+way_turns (ToEnd m n) = link_turns (shape_of n) m
+
+abbrev pub way_kept : Way → Bool
+way_kept (ToLeaf i n) = true
+way_kept (ToEnd m n) = kept (link_turns (shape_of n) m)
 
 -- the ranges beside it, the lowest first: those of a path or of a link
 abbrev pub way_spans : Way → List Span

@@ -1,6 +1,6 @@
 // Ways from the root of a tree down.
 ghost use Rattle.std.specs.Prelude.{◌≡◌, ◌-◌, ◌<◌};
-ghost use Rattle.tree.specs.Ways.{in_way, way_leaves, passes_low, ends_with};
+ghost use Rattle.tree.specs.Ways.{in_way, way_leaves, passes_low, side_of, ends_with};
 
 use crate::spans::{LARGEST, Span};
 
@@ -9,6 +9,14 @@ use crate::spans::{LARGEST, Span};
 pub enum Way {
     ToLeaf { index: usize, size: usize },
     ToEnd { old: usize, new: usize },
+}
+
+// How a way goes by a range of leaves: before it, after it, or through it.
+#[derive(Clone, Copy, PartialEq, Eq, Debug)]
+pub enum Side {
+    Low,
+    High,
+    Through,
 }
 
 impl Way {
@@ -39,6 +47,19 @@ impl Way {
         match self {
             Way::ToLeaf { index, .. } => index < leaf,
             Way::ToEnd { old, .. } => old <= leaf,
+        }
+    }
+
+    // How it goes by a range.
+    pub fn side(self, range: Span) -> Side
+        ensures { result ≡ side_of self range }
+    {
+        if self.passes_low(range.from) {
+            Side::Low
+        } else if self.passes_low(range.to) {
+            Side::Through
+        } else {
+            Side::High
         }
     }
 
