@@ -2,4 +2,5 @@ pub mod Evenly
 pub mod Climbs
 pub mod Ranged
 pub mod Nodes
+pub mod Readings
 pub mod Writing

@@ -24,40 +24,22 @@ abbrev pub way_digests : Hashing → List Bytes → Way → List Bytes
 way_digests f leaves (ToLeaf i n) = path_of f leaves i n
 way_digests f leaves (ToEnd m n) = link_of f leaves m n
 
--- these numbers and digests
+-- the payload of its path or link: these numbers and digests
 abbrev pub way_payload : Hashing → List Bytes → Way → Bytes
 way_payload f leaves way = payload (way_numbers way).0 (way_numbers way).1 (way_digests f leaves way)
 
-abbrev pub path_payload : Hashing → List Bytes → ℕ → ℕ → Bytes
-path_payload f leaves i n = way_payload f leaves (ToLeaf i n)
-
-abbrev pub link_payload : Hashing → List Bytes → ℕ → ℕ → Bytes
-link_payload f leaves m n = way_payload f leaves (ToEnd m n)
-
--- how many bytes these payloads have, at digests of w bytes
+-- how many bytes it has, at digests of w bytes
 abbrev pub way_size : ℕ → Way → ℕ
 way_size w way = 8 + w * length (way_spans way)
-
-abbrev pub path_size : ℕ → ℕ → ℕ → ℕ
-path_size w i n = way_size w (ToLeaf i n)
-
-abbrev pub link_size : ℕ → ℕ → ℕ → ℕ
-link_size w m n = way_size w (ToEnd m n)
 
 -- numbers in order, n leaves among count, cells for ranges and for subtrees, and room for size bytes
 abbrev pub fits : Bool → ℕ → ℕ → ℕ → ℕ → ℕ → ℕ → Bool
 fits order n count spans cells size room =
     cond order (cond (nat_le n count) (cond (nat_le cells_needed spans) (cond (nat_le cells_needed cells) (nat_le size room) false) false) false) false
 
--- whether they can be written, at digests of w bytes
+-- whether it can be written, at digests of w bytes
 abbrev pub way_fits : ℕ → Way → ℕ → ℕ → ℕ → ℕ → Bool
 way_fits w way count spans cells room = fits (in_way way) (way_leaves way) count spans cells (way_size w way) room
-
-abbrev pub path_fits : ℕ → ℕ → ℕ → ℕ → ℕ → ℕ → ℕ → Bool
-path_fits w i n = way_fits w (ToLeaf i n)
-
-abbrev pub link_fits : ℕ → ℕ → ℕ → ℕ → ℕ → ℕ → ℕ → Bool
-link_fits w m n = way_fits w (ToEnd m n)
 
 -- that so many bytes were written, or nothing
 abbrev pub wrote : Bool → ℕ → Option ℕ

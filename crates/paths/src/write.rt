@@ -3,7 +3,7 @@ ghost use Rattle.std.specs.Prelude.{◌≡◌, ℕ, ◌+◌, ◌≤◌, true, Li
 ghost use Rattle.cipher.specs.Bytes.{little, written};
 ghost use Rattle.hash.specs.Hash.{from_zeros};
 ghost use Rattle.tree.specs.Ways.{in_way};
-ghost use Rattle.paths.specs.Payloads.{way_numbers, way_payload, path_payload, link_payload, way_size, path_size, link_size, way_fits, path_fits, link_fits, wrote};
+ghost use Rattle.paths.specs.Payloads.{way_numbers, way_payload, way_size, way_fits, wrote};
 
 use crate::beside::beside;
 use cipher::words::Words;
@@ -31,8 +31,8 @@ fn numbers(way: Way) -> (u32, u32)
     }
 }
 
-// Writes the payload of a way at the front of the output, and says how long it is.
-fn way_into<C: Compression, L: Leaves<Item = C::Value>>(
+// Writes the payload of the path or the link of a way at the front of the output, and says how long it is.
+pub fn way_into<C: Compression, L: Leaves<Item = C::Value>>(
     c: &C,
     leaves: &L,
     way: Way,
@@ -60,38 +60,4 @@ fn way_into<C: Compression, L: Leaves<Item = C::Value>>(
         digest.store(out, 8 + k * width);
     }
     Some(size)
-}
-
-// Writes the payload of the path of leaf `i` among the first `n` at the front of the output, and says how long it is.
-pub fn path_into<C: Compression, L: Leaves<Item = C::Value>>(
-    c: &C,
-    leaves: &L,
-    i: usize,
-    n: usize,
-    spans: &mut [Span],
-    cells: &mut [Subtree<C::Value>],
-    out: &mut [u8],
-) -> Option<usize>
-    ensures size { result ≡ wrote (path_fits C.Value.Words.width i n (length (L.Leaves.items leaves.now)) (length spans.old) (length cells.old) (length out.old)) (path_size C.Value.Words.width i n) }
-    ensures bytes { out.new ≡ (if path_fits C.Value.Words.width i n (length (L.Leaves.items leaves.now)) (length spans.old) (length cells.old) (length out.old) then written 0 (path_payload (from_zeros C.Value.Words.width C.Compression.f) (L.Leaves.items leaves.now) i n) out.old else out.old) }
-{
-    let way = Way::ToLeaf { index: i, size: n };
-    way_into(c, leaves, way, spans, cells, out)
-}
-
-// Writes the payload of the link from the first `m` leaves to the first `n` at the front of the output, and says how long it is.
-pub fn link_into<C: Compression, L: Leaves<Item = C::Value>>(
-    c: &C,
-    leaves: &L,
-    m: usize,
-    n: usize,
-    spans: &mut [Span],
-    cells: &mut [Subtree<C::Value>],
-    out: &mut [u8],
-) -> Option<usize>
-    ensures size { result ≡ wrote (link_fits C.Value.Words.width m n (length (L.Leaves.items leaves.now)) (length spans.old) (length cells.old) (length out.old)) (link_size C.Value.Words.width m n) }
-    ensures bytes { out.new ≡ (if link_fits C.Value.Words.width m n (length (L.Leaves.items leaves.now)) (length spans.old) (length cells.old) (length out.old) then written 0 (link_payload (from_zeros C.Value.Words.width C.Compression.f) (L.Leaves.items leaves.now) m n) out.old else out.old) }
-{
-    let way = Way::ToEnd { old: m, new: n };
-    way_into(c, leaves, way, spans, cells, out)
 }
