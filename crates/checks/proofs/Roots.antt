@@ -11,7 +11,7 @@ use Rattle.tree.specs.Tree.{shape_of}
 use Rattle.tree.proofs.Lengths.{length_path}
 use Rattle.roots.specs.Roots.{cells_needed}
 use Rattle.paths.specs.Rebuilds.{path_reads, link_reads, path_root, link_roots}
-use Rattle.paths.proofs.Rebuilt.{path_reads_holds, link_reads_holds}
+use Rattle.paths.proofs.Readings.{path_reads_holds, link_reads_holds}
 use Rattle.refusal.specs.Refusals.{Answer, must, ◌>>◌}
 use Rattle.refusal.specs.declared.Refusal.{Refusal}
 use Rattle.refusal.specs.declared.Refusal.TheVariants.{TooLong}

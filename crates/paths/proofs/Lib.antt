@@ -1,6 +1,6 @@
-pub mod Beside
-pub mod Climbing
-pub mod Rebuilt
+pub mod Evenly
+pub mod Climbs
+pub mod Ranged
+pub mod Nodes
+pub mod Readings
 pub mod Writing
-pub mod Parting
-pub mod Parted

@@ -3,17 +3,23 @@ use Rattle.std.specs.Prelude.{ℕ, ◌*◌, Bool, false, cond, length, Some, Non
 use Rattle.hash.specs.Hash.{Hashing, cut}
 use Rattle.hash.specs.Collisions.{Bytes}
 use Rattle.tree.specs.Digests.{rebuilt, rebuilt_old, rebuilt_new}
-use Rattle.tree.specs.Spans.{path_spans, link_spans, in_tree, in_link}
+use Rattle.tree.specs.Spans.{path_spans, link_spans}
+use Rattle.tree.specs.declared.ways.Way.{Way}
+use Rattle.tree.specs.declared.ways.Way.TheVariants.{ToLeaf, ToEnd}
+use Rattle.tree.specs.Ways.{in_way, way_spans}
 use Rattle.roots.specs.Roots.{cells_needed}
 use Rattle.paths.specs.declared.rebuild.Roots.{Roots}
 
--- an index below its size, cells enough, and as many digests of w bytes as the path of leaf i among n has
-abbrev pub path_reads : ℕ → ℕ → ℕ → ℕ → ℕ → Bool
-path_reads w i n cells long = cond (in_tree i n) (cond (nat_le cells_needed cells) (long == w * length (path_spans i n)) false) false
+-- such a way, cells enough, and as many digests of w bytes as it has ranges beside it
+abbrev pub way_reads : ℕ → Way → ℕ → ℕ → Bool
+way_reads w way cells long = cond (in_way way) (cond (nat_le cells_needed cells) (long == w * length (way_spans way)) false) false
 
--- sizes in order, cells enough, and as many digests of w bytes as the link from m to n has
+-- that of the path of leaf i among n, and of the link from m to n
+abbrev pub path_reads : ℕ → ℕ → ℕ → ℕ → ℕ → Bool
+path_reads w i n = way_reads w (ToLeaf i n)
+
 abbrev pub link_reads : ℕ → ℕ → ℕ → ℕ → ℕ → Bool
-link_reads w m n cells long = cond (in_link m n) (cond (nat_le cells_needed cells) (long == w * length (link_spans m n)) false) false
+link_reads w m n = way_reads w (ToEnd m n)
 
 -- the root that the path of leaf i among n rebuilds over the leaf's digest, where the path reads
 abbrev pub path_root : Hashing → ℕ → ℕ → ℕ → Bytes → Bytes → Option Bytes

@@ -2,6 +2,7 @@
 #![tactic(auto)]
 
 pub mod apart;
-mod descent;
+mod beside;
+mod digests;
 pub mod rebuild;
 pub mod write;

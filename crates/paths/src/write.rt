@@ -1,21 +1,17 @@
 // Paths and links written from the leaves.
-ghost use Rattle.std.specs.Prelude.{◌≡◌, ℕ, ◌+◌, ◌*◌, ◌≤◌, leb, List, ◌++◌, reverse, length, if◌then◌else◌, nat_le};
-ghost use Rattle.std.specs.List.{flat_map};
+ghost use Rattle.std.specs.Prelude.{◌≡◌, ℕ, ◌+◌, ◌≤◌, true, List, length, if◌then◌else◌};
 ghost use Rattle.cipher.specs.Bytes.{little, written};
-ghost use Rattle.stack.specs.Held.{held};
 ghost use Rattle.hash.specs.Hash.{from_zeros};
-ghost use Rattle.tree.specs.Spans.{largest};
-ghost use Rattle.roots.specs.Roots.{cells_needed};
-ghost use Rattle.paths.specs.Payloads.{path_payload, link_payload, path_size, link_size, path_fits, link_fits, wrote};
-ghost use Rattle.paths.specs.Ranges.{Within, span_digest};
+ghost use Rattle.tree.specs.Ways.{in_way};
+ghost use Rattle.paths.specs.Payloads.{way_numbers, way_payload, way_size, way_fits, wrote};
 
-use crate::descent::{push_link, push_path};
+use crate::beside::beside;
 use cipher::words::Words;
 use hash::compress::Compression;
 use roots::range::{CELLS, Subtree, range_root};
-use stack::Stack;
 use tree::leaves::Leaves;
-use tree::spans::{LARGEST, Span};
+use tree::spans::Span;
+use tree::ways::Way;
 
 fn store_number(n: u32, into: &mut [u8], at: usize)
     requires { at + 4 ≤ length into.old }
@@ -24,105 +20,44 @@ fn store_number(n: u32, into: &mut [u8], at: usize)
     into[at..at + 4].copy_from_slice(&n.to_le_bytes());
 }
 
-// Writes the digests of the ranges on the stack, the last pushed first, from a place on.
-fn write_spans<C: Compression, L: Leaves<Item = C::Value>>(
-    c: &C,
-    leaves: &L,
-    spans: &mut Stack<'_, Span>,
-    cells: &mut [Subtree<C::Value>],
-    out: &mut [u8],
-    mut at: usize,
-)
-    requires cells { cells_needed ≤ length cells.old }
-    requires room { at + C.Value.Words.width * spans.old.len ≤ length out.old }
-    requires within { (n : ℕ) × (n ≤ largest) × (n ≤ length (L.Leaves.items leaves.now)) × Within n (held spans.old) }
-    ensures bytes { out.new ≡ written at (flat_map (span_digest (from_zeros C.Value.Words.width C.Compression.f) (L.Leaves.items leaves.now)) (reverse (held spans.old))) out.old }
-    ensures long { length (flat_map (span_digest (from_zeros C.Value.Words.width C.Compression.f) (L.Leaves.items leaves.now)) (reverse (held spans.old))) ≡ C.Value.Words.width * spans.old.len }
+// The numbers with which the payload of a way begins: the index and the size, or the two sizes.
+fn numbers(way: Way) -> (u32, u32)
+    requires { in_way way ≡ true }
+    ensures { result ≡ way_numbers way }
 {
-    let width = C::Value::size();
-    while let Some(span) = spans.pop() {
-        let Some(digest) = range_root(c, leaves, span.from, span.to, cells) else {
-            return;
-        };
-        digest.store(out, at);
-        at += width;
+    match way {
+        Way::ToLeaf { index, size } => (index as u32, size as u32),
+        Way::ToEnd { old, new } => (old as u32, new as u32),
     }
 }
 
-// Writes two numbers and the digests of the ranges on the stack at the front of the output, if it has room for them.
-fn write_payload<C: Compression, L: Leaves<Item = C::Value>>(
+// Writes the payload of the path or the link of a way at the front of the output, and says how long it is.
+pub fn way_into<C: Compression, L: Leaves<Item = C::Value>>(
     c: &C,
     leaves: &L,
-    first: u32,
-    second: u32,
-    spans: &mut Stack<'_, Span>,
+    way: Way,
+    spans: &mut [Span],
     cells: &mut [Subtree<C::Value>],
     out: &mut [u8],
 ) -> Option<usize>
-    requires cells { cells_needed ≤ length cells.old }
-    requires few { spans.old.len ≤ 21 }
-    requires within { (n : ℕ) × (n ≤ largest) × (n ≤ length (L.Leaves.items leaves.now)) × Within n (held spans.old) }
-    ensures size { result ≡ wrote (nat_le (8 + C.Value.Words.width * spans.old.len) (length out.old)) (8 + C.Value.Words.width * spans.old.len) }
-    ensures bytes { out.new ≡ (if leb (8 + C.Value.Words.width * spans.old.len) (length out.old) then written 0 (little 4 first ++ (little 4 second ++ flat_map (span_digest (from_zeros C.Value.Words.width C.Compression.f) (L.Leaves.items leaves.now)) (reverse (held spans.old)))) out.old else out.old) }
+    ensures size { result ≡ wrote (way_fits C.Value.Words.width way (length (L.Leaves.items leaves.now)) (length spans.old) (length cells.old) (length out.old)) (way_size C.Value.Words.width way) }
+    ensures bytes { out.new ≡ (if way_fits C.Value.Words.width way (length (L.Leaves.items leaves.now)) (length spans.old) (length cells.old) (length out.old) then written 0 (way_payload (from_zeros C.Value.Words.width C.Compression.f) (L.Leaves.items leaves.now) way) out.old else out.old) }
 {
-    let size = 8 + C::Value::size() * spans.len();
+    if way.leaves() > leaves.count() || cells.len() < CELLS {
+        return None;
+    }
+    let width = C::Value::size();
+    let ranges = beside(way, spans)?;
+    let size = 8 + width * ranges.len();
     if out.len() < size {
         return None;
     }
+    let (first, second) = numbers(way);
     store_number(first, out, 0);
     store_number(second, out, 4);
-    write_spans(c, leaves, spans, cells, out, 8);
+    for (k, range) in ranges.enumerate() {
+        let digest = range_root(c, leaves, range.from, range.to, cells)?;
+        digest.store(out, 8 + k * width);
+    }
     Some(size)
-}
-
-// Writes the payload of the path of leaf `i` among the first `n` at the front of the output, and says how long it is.
-pub fn path_into<C: Compression, L: Leaves<Item = C::Value>>(
-    c: &C,
-    leaves: &L,
-    i: usize,
-    n: usize,
-    spans: &mut [Span],
-    cells: &mut [Subtree<C::Value>],
-    out: &mut [u8],
-) -> Option<usize>
-    ensures size { result ≡ wrote (path_fits C.Value.Words.width i n (length (L.Leaves.items leaves.now)) (length spans.old) (length cells.old) (length out.old)) (path_size C.Value.Words.width i n) }
-    ensures bytes { out.new ≡ (if path_fits C.Value.Words.width i n (length (L.Leaves.items leaves.now)) (length spans.old) (length cells.old) (length out.old) then written 0 (path_payload (from_zeros C.Value.Words.width C.Compression.f) (L.Leaves.items leaves.now) i n) out.old else out.old) }
-{
-    if i >= n || n > LARGEST || n > leaves.count() || spans.len() < CELLS || cells.len() < CELLS {
-        return None;
-    }
-    let mut stack = Stack::new(spans);
-    let Ok(()) = push_path(i, n, &mut stack) else {
-        return None;
-    };
-    write_payload(c, leaves, i as u32, n as u32, &mut stack, cells, out)
-}
-
-// Writes the payload of the link from the first `m` leaves to the first `n` at the front of the output, and says how long it is.
-pub fn link_into<C: Compression, L: Leaves<Item = C::Value>>(
-    c: &C,
-    leaves: &L,
-    m: usize,
-    n: usize,
-    spans: &mut [Span],
-    cells: &mut [Subtree<C::Value>],
-    out: &mut [u8],
-) -> Option<usize>
-    ensures size { result ≡ wrote (link_fits C.Value.Words.width m n (length (L.Leaves.items leaves.now)) (length spans.old) (length cells.old) (length out.old)) (link_size C.Value.Words.width m n) }
-    ensures bytes { out.new ≡ (if link_fits C.Value.Words.width m n (length (L.Leaves.items leaves.now)) (length spans.old) (length cells.old) (length out.old) then written 0 (link_payload (from_zeros C.Value.Words.width C.Compression.f) (L.Leaves.items leaves.now) m n) out.old else out.old) }
-{
-    if m == 0
-        || m > n
-        || n > LARGEST
-        || n > leaves.count()
-        || spans.len() < CELLS
-        || cells.len() < CELLS
-    {
-        return None;
-    }
-    let mut stack = Stack::new(spans);
-    let Ok(_) = push_link(m, n, &mut stack) else {
-        return None;
-    };
-    write_payload(c, leaves, m as u32, n as u32, &mut stack, cells, out)
 }

@@ -13,6 +13,9 @@ use Rattle.hash.specs.Widths.{Sized}
 use Rattle.tree.specs.Digests.{Digests, node_digest, root_at, path_of, link_of}
 use Rattle.tree.specs.Tree.{shape_of, part_by}
 use Rattle.tree.specs.Spans.{largest, in_tree, in_link, span_of, path_spans, link_spans}
+use Rattle.tree.specs.declared.ways.Way.{Way}
+use Rattle.tree.specs.declared.ways.Way.TheVariants.{ToLeaf, ToEnd}
+use Rattle.tree.specs.Ways.{in_way, way_leaves, way_spans}
 use Rattle.tree.proofs.Shapes.{size_shape_of}
 use Rattle.tree.proofs.Widths.{digests_path, digests_sub, length_joined}
 use Rattle.tree.proofs.Lengths.{length_path}
@@ -20,12 +23,13 @@ use Rattle.tree.proofs.Linking.{length_link}
 use Rattle.roots.specs.Roots.{in_range, root_between, range_root}
 use Rattle.refusal.specs.Refusals.{must, ◌>>◌}
 use Rattle.refusal.specs.declared.Refusal.TheVariants.{MadeOverLeaves, ImpossibleRequest, TooFewCells}
-use Rattle.paths.specs.Payloads.{fits}
+use Rattle.paths.specs.Payloads.{fits, way_payload}
 use Rattle.record.specs.Frames.{framed, frame_of}
 use Rattle.record.specs.Records.{Head, head, proof, link, spelled, flat}
 use Rattle.refusal.proofs.Doing.{none_some, some_same, through, and_true}
 use Rattle.record.proofs.Framing.{length_framed}
 use Rattle.release_log.specs.Buffers.{enough, fitting}
+use Rattle.release_log.specs.Ways.{way_kind, way_record}
 use Rattle.release_log.specs.Logs.{LogState, head_over, proof_over, link_over, head_answer}
 
 -- a header and then a payload written behind it are the record at the front
@@ -128,6 +132,16 @@ module _ (f : Hashing) (sized : Sized f) (leaves : List Bytes) (wide : Digests f
       let d : Digests f.width (link_of f leaves m n) = digests_sub f sized leaves wide (shape_of n) 0 m true (omega (arith, size_shape_of n a, b)) in
       let e : length (link_of f leaves m n) ≡ length (link_spans m n) = length_link (part_by (node_digest f) [] leaves) (shape_of n) 0 m ∙ sym (length_link span_of (shape_of n) 0 m) in
       length_framed _ ∙ omega (arith, length_numbered m n f.width (link_of f leaves m n) d, ap (λ (k : ℕ). f.width * k) e)
+
+  -- the same of a way
+  pub length_way : (w : Way) → in_way w ≡ true → way_leaves w ≤ length leaves → length (spelled (way_record f leaves w)) ≡ 12 + f.width * length (way_spans w)
+  length_way (ToLeaf i n) a b = length_proof i n (tree_some i n a) b
+  length_way (ToEnd m n) a b = length_linked m n (link_some m n a) b
+
+-- its record is framed
+pub way_framed : (f : Hashing) (leaves : List Bytes) (w : Way) → spelled (way_record f leaves w) ≡ framed (frame_of (way_kind w) (way_payload f leaves w))
+way_framed f leaves (ToLeaf i n) = refl
+way_framed f leaves (ToEnd m n) = refl
 
 pub length_head : (h : Head) → length (spelled (head h)) ≡ 8 + length h.root
 length_head h = length_framed _ ∙ omega (arith, length-append (little 4 h.size) h.root, length_little 4 h.size)

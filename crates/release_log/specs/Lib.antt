@@ -1,3 +1,4 @@
 pub mod Buffers
 pub mod Logs
 pub mod States
+pub mod Ways

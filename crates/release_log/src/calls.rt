@@ -5,13 +5,15 @@ ghost use Rattle.refusal.specs.Refusals.{given};
 ghost use Rattle.refusal.specs.declared.Refusal.TheVariants.{MadeOverLeaves};
 ghost use Rattle.release_log.specs.Buffers.{length_of, output_after};
 ghost use Rattle.release_log.specs.Logs.{append_answer, head_answer, prove_answer, link_answer, log_after, file_after};
+ghost use Rattle.record.specs.Kinds.{number_of};
+ghost use Rattle.release_log.specs.Ways.{way_kind, way_answer};
 ghost use Rattle.release_log.specs.States.{state_of};
 
 use crate::Log;
 use crate::buffers::{enough, fits};
 use cipher::words::Words;
 use hash::compress::Compression;
-use paths::write::{link_into, path_into};
+use paths::write::way_into;
 use record::heads::Head;
 use record::kinds::Kind;
 use record::sizes::{entry_len, head_len};
@@ -21,7 +23,8 @@ use roots::range::{Subtree, range_root};
 use store::Store;
 use tree::digests::leaf;
 use tree::leaves::Leaves;
-use tree::spans::{Span, link_len, path_len};
+use tree::spans::Span;
+use tree::ways::Way;
 
 impl<C: Compression, S: Store + Leaves<Item = C::Value>> Log<S, C> {
     // A log over a store. If the store has leaves, the log only passes on the store's questions.
@@ -85,29 +88,11 @@ impl<C: Compression, S: Store + Leaves<Item = C::Value>> Log<S, C> {
         ensures answer { result ≡ length_of (prove_answer (from_zeros C.Value.Words.width C.Compression.f) (state_of S.Leaves.items S.Store.space self.now) (min (length spans.old) (length cells.old)) (length out.old) i n) }
         ensures output { out.new ≡ output_after (prove_answer (from_zeros C.Value.Words.width C.Compression.f) (state_of S.Leaves.items S.Store.space self.now) (min (length spans.old) (length cells.old)) (length out.old) i n) out.old }
     {
-        self.open()?;
-        enough(spans.len().min(cells.len()))?;
-        let i = i as usize;
-        let n = n as usize;
-        let Some(digests) = path_len(i, n) else {
-            return Err(Refusal::ImpossibleRequest);
+        let way = Way::ToLeaf {
+            index: i as usize,
+            size: n as usize,
         };
-        if n > self.store.count() {
-            return Err(Refusal::ImpossibleRequest);
-        }
-        let payload = 8 + C::Value::size() * digests;
-        fits(4 + payload, out.len())?;
-        write_header(Kind::Proof, payload as u16, out, 0);
-        let _ = path_into(
-            &self.compression,
-            &self.store,
-            i,
-            n,
-            spans,
-            cells,
-            &mut out[4..],
-        );
-        Ok(4 + payload)
+        self.write(way, spans, cells, out)
     }
 
     // Writes the link from the first `m` leaves to the first `n` at the front of the output, and says how long it is.
@@ -122,24 +107,39 @@ impl<C: Compression, S: Store + Leaves<Item = C::Value>> Log<S, C> {
         ensures answer { result ≡ length_of (link_answer (from_zeros C.Value.Words.width C.Compression.f) (state_of S.Leaves.items S.Store.space self.now) (min (length spans.old) (length cells.old)) (length out.old) m n) }
         ensures output { out.new ≡ output_after (link_answer (from_zeros C.Value.Words.width C.Compression.f) (state_of S.Leaves.items S.Store.space self.now) (min (length spans.old) (length cells.old)) (length out.old) m n) out.old }
     {
+        let way = Way::ToEnd {
+            old: m as usize,
+            new: n as usize,
+        };
+        self.write(way, spans, cells, out)
+    }
+
+    // Writes the proof or the link of a way at the front of the output, and says how long it is.
+    fn write(
+        &self,
+        way: Way,
+        spans: &mut [Span],
+        cells: &mut [Subtree<C::Value>],
+        out: &mut [u8],
+    ) -> Result<usize, Refusal>
+        ensures answer { result ≡ length_of (way_answer (from_zeros C.Value.Words.width C.Compression.f) (state_of S.Leaves.items S.Store.space self.now) (min (length spans.old) (length cells.old)) (length out.old) way) }
+        ensures output { out.new ≡ output_after (way_answer (from_zeros C.Value.Words.width C.Compression.f) (state_of S.Leaves.items S.Store.space self.now) (min (length spans.old) (length cells.old)) (length out.old) way) out.old }
+    {
         self.open()?;
         enough(spans.len().min(cells.len()))?;
-        let m = m as usize;
-        let n = n as usize;
-        let Some(digests) = link_len(m, n) else {
+        let Some(digests) = way.len() else {
             return Err(Refusal::ImpossibleRequest);
         };
-        if n > self.store.count() {
+        if way.leaves() > self.store.count() {
             return Err(Refusal::ImpossibleRequest);
         }
         let payload = 8 + C::Value::size() * digests;
         fits(4 + payload, out.len())?;
-        write_header(Kind::Link, payload as u16, out, 0);
-        let _ = link_into(
+        write_header(kind_of(way), payload as u16, out, 0);
+        let _ = way_into(
             &self.compression,
             &self.store,
-            m,
-            n,
+            way,
             spans,
             cells,
             &mut out[4..],
@@ -152,5 +152,15 @@ impl<C: Compression, S: Store + Leaves<Item = C::Value>> Log<S, C> {
         ensures { result ≡ given self.now.used MadeOverLeaves }
     {
         self.used.ok_or(Refusal::MadeOverLeaves)
+    }
+}
+
+// The kind of the record that is written for a way.
+fn kind_of(way: Way) -> Kind
+    ensures { number_of result ≡ way_kind way }
+{
+    match way {
+        Way::ToLeaf { .. } => Kind::Proof,
+        Way::ToEnd { .. } => Kind::Link,
     }
 }

@@ -37,3 +37,19 @@ impl<'a, T: Copy> Stack<'a, T> {
         Some(self.cells[self.len])
     }
 }
+
+// The values from the top down, each taken off.
+impl<T: Copy> Iterator for Stack<'_, T> {
+    ghost use Rattle.std.specs.Iterator.{YieldsFirst, item_count};
+    ghost use Rattle.stack.specs.Held.{popped};
+
+    type Item = T;
+
+    ghost next_gives = { YieldsFirst popped };
+
+    ghost remaining = { item_count popped };
+
+    fn next(&mut self) -> Option<T> {
+        self.pop()
+    }
+}

@@ -5,6 +5,8 @@ pub mod Lengths
 pub mod Depth
 pub mod Complete
 pub mod Down
+pub mod Onward
+pub mod Sides
 pub mod Descent
 pub mod Stand
 pub mod Widths

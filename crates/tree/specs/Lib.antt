@@ -4,4 +4,6 @@ pub mod Digests
 pub mod Messages
 pub mod Entries
 pub mod Spans
+pub mod Ways
+pub mod Descents
 pub mod Laws

@@ -1,5 +1,5 @@
 -- Paths and links as ranges of leaves, and how many digests they have. Assumes nothing.
-use Rattle.std.specs.Prelude.{ℕ, ◌+◌, Bool, true, false, cond, List, length, Some, None, Option, nat_le, nat_lt}
+use Rattle.std.specs.Prelude.{◌≡◌, ℕ, ◌+◌, ◌-◌, ◌*◌, ◌^◌, ◌<◌, ◌≤◌, Bool, true, false, cond, List, length, Some, None, Option, nat_le, nat_lt}
 use Rattle.tree.specs.declared.spans.Span.{Span}
 use Rattle.tree.specs.Tree.{Shape, size, shape_of, path}
 use Rattle.tree.specs.Links.{sub}
@@ -14,6 +14,10 @@ between a b = record { from = a; to = b }
 
 abbrev pub span_of : ℕ → Shape → Span
 span_of a s = between a (a + size s)
+
+-- the first 2 ^ j leaves of s, and the others, where these are not more
+abbrev pub Halves : Span → Span → Span → Type 0
+Halves s l r = (j : ℕ) × (s.from + 2 ^ j < s.to) × (s.to - s.from ≤ 2 * 2 ^ j) × (l ≡ between s.from (s.from + 2 ^ j)) × (r ≡ between (s.from + 2 ^ j) s.to)
 
 -- the path of leaf i among n, and the link from m to n
 abbrev pub path_spans : ℕ → ℕ → List Span

@@ -1,23 +1,36 @@
 // Ranges of leaves, and how many of them a path and a link have.
-ghost use Rattle.std.specs.Prelude.{◌≡◌, ℕ, ◌^◌, ◌≤◌, IfSome};
-ghost use Rattle.tree.specs.Spans.{path_count, link_count};
+ghost use Rattle.std.specs.Prelude.{◌≡◌, ℕ, ◌+◌, ◌-◌, ◌*◌, ◌^◌, ◌<◌, ◌≤◌, IfSome};
+ghost use Rattle.tree.specs.Spans.{path_count, link_count, Halves};
+
+use crate::ways::Way;
 
 // A tree has at most so many leaves.
 pub const LARGEST: usize = 1_048_576;
 
 // Leaves `from` to `to` - 1.
-#[derive(Clone, Copy)]
+#[derive(Clone, Copy, PartialEq, Eq, Debug, Default)]
 pub struct Span {
     pub from: usize,
     pub to: usize,
 }
 
-// The power of two at a height.
-fn leaves_at(h: u32) -> usize
-    requires { h ≤ 20 }
-    ensures { result ≡ 2 ^ h }
-{
-    1 << h
+impl Span {
+    // The first leaves, as many as the largest power of two below the number of all, and the others.
+    pub(crate) fn halves(self) -> (Span, Span)
+        requires { 1 < self.to - self.from }
+        ensures { Halves self result.0 result.1 }
+    {
+        let mid = self.from + (1 << (self.to - self.from - 1).ilog2());
+        let first = Span {
+            from: self.from,
+            to: mid,
+        };
+        let others = Span {
+            from: mid,
+            to: self.to,
+        };
+        (first, others)
+    }
 }
 
 // How many digests the path of leaf `i` among `n` has, if there is such a leaf.
@@ -25,27 +38,7 @@ pub fn path_len(i: usize, n: usize) -> Option<usize>
     ensures count { result ≡ path_count i n }
     ensures most { IfSome result (λ k. k ≤ 20) }
 {
-    if i >= n || n > LARGEST {
-        return None;
-    }
-    let mut from = 0;
-    let mut to = n;
-    let mut h = 20u32;
-    let mut count = 0;
-    while to - from > 1 {
-        h -= 1;
-        let mid = from + leaves_at(h);
-        if to <= mid {
-            continue;
-        }
-        count += 1;
-        if i < mid {
-            to = mid;
-        } else {
-            from = mid;
-        }
-    }
-    Some(count)
+    Way::ToLeaf { index: i, size: n }.len()
 }
 
 // How many digests the link from `m` to `n` leaves has, if there is such a link.
@@ -53,29 +46,5 @@ pub fn link_len(m: usize, n: usize) -> Option<usize>
     ensures count { result ≡ link_count m n }
     ensures most { IfSome result (λ k. k ≤ 21) }
 {
-    if m == 0 || m > n || n > LARGEST {
-        return None;
-    }
-    let mut from = 0;
-    let mut to = n;
-    let mut h = 20u32;
-    let mut count = 0;
-    while to != m {
-        h -= 1;
-        let mid = from + leaves_at(h);
-        if to <= mid {
-            continue;
-        }
-        count += 1;
-        if m <= mid {
-            to = mid;
-        } else {
-            from = mid;
-        }
-    }
-    if from == 0 {
-        Some(count)
-    } else {
-        Some(count + 1)
-    }
+    Way::ToEnd { old: m, new: n }.len()
 }

@@ -1,6 +1,6 @@
 use Rattle.std.proofs.Common.{Bool, ◌&&◌, sym, ap, ◌∙◌}
 use Rattle.std.specs.Str.{bytes_eq}
-use Rattle.paths.proofs.Parting.{same_append}
+use Rattle.paths.proofs.Nodes.{same_append}
 use Rattle.paths.proofs.apart.same_node.Goals as goal
 
 pub returns-then-eq : goal.returns-then-eq
