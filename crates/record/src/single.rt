@@ -15,7 +15,7 @@ use crate::records::{InputBytes, Link, Proof, Record};
 use cipher::words::{Block, Words};
 use refusal::{Refusal, Site, must};
 
-// What the records of one kind say.
+// What is read from records of one kind, with what it says in the words of the definitions. `whole` holds of what was read.
 trait Single<'a, D: Words>: Copy {
     ghost Says: { Type 0 };
 
@@ -112,6 +112,7 @@ fn input_of<D: Words>(parts: InputBytes<'_>) -> Option<Input<D>>
     })
 }
 
+// Input `number` as a single record of the kind that `T` is read from.
 fn read_one<'a, D: Words, T: Single<'a, D>>(number: u8, bytes: &'a [u8]) -> Result<T, Refusal>
     ensures answer { result_map_both T.says (λ (e : TheRefusal). e) result ≡ read_one D.Words.width number T.wanted bytes.now }
     ensures whole { IfOk result T.whole }

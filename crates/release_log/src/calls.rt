@@ -71,9 +71,10 @@ impl<C: Compression, S: Store + Leaves<Item = C::Value>> Log<S, C> {
             Refusal::ImpossibleRequest,
         )?;
         let head = Head::new(n, root).ok_or(Refusal::ImpossibleRequest)?;
-        fits(head_len::<C::Value>(), out.len())?;
+        let len = head_len::<C::Value>();
+        fits(len, out.len())?;
         write_head(head, out, 0);
-        Ok(head_len::<C::Value>())
+        Ok(len)
     }
 
     // Writes the proof of leaf `i` among the first `n` at the front of the output, and says how long it is.

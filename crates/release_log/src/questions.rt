@@ -1,8 +1,7 @@
 // What a log tells of itself and of its store, also where it was made over leaves.
 ghost use Rattle.std.specs.Prelude.{◌≡◌, ℕ, List, length};
-ghost use Rattle.std.specs.Option.{option_map};
+ghost use Rattle.std.specs.Option.{option_map, unwrap_or};
 ghost use Rattle.std.specs.List.{slice_get};
-ghost use Rattle.release_log.specs.States.{used_of};
 
 use crate::Log;
 use cipher::words::Words;
@@ -39,7 +38,7 @@ impl<C: Compression, S: Store + Leaves<Item = C::Value>> Log<S, C> {
 
     // How many bytes of the entry file are used.
     pub fn used(&self) -> usize
-        ensures { result ≡ used_of self.now.used }
+        ensures { result ≡ unwrap_or self.now.used 0 }
     {
         self.used.unwrap_or(0)
     }

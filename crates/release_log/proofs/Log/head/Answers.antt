@@ -31,10 +31,10 @@ returns-in_err-fits g c =
     let some : 21 ≤ cells = leb_from 21 cells TooFewCells c.in_ok-enough.ensures in
     let wide : length (root_at F l.leaves n) ≡ g.C.Value.Words.width = ap length (sym found.3) ∙ g.met.C.Value.Words.sized c.in_ok-root.root in
     let long : length (spelled (head (head_over F l.leaves n))) ≡ 8 + g.C.Value.Words.width = length_head (head_over F l.leaves n) ∙ ap (λ (k : ℕ). 8 + k) wide in
-    let short : length out < c.head_len.result = lt_from c.head_len.result (length out) OutputShort _ c.in_err-fits.ensures in
+    let short : length out < c.head_len-len.result = lt_from c.head_len-len.result (length out) OutputShort _ c.in_err-fits.ensures in
     let refused : head_answer F l cells (length out) n ≡ Err OutputShort =
     head_checked F l cells (length out) n started some found.0 found.2 found.1
-    ∙ fitting_short (length out) (spelled (head (head_over F l.leaves n))) (omega (arith, c.head_len.ensures.value)) in
+    ∙ fitting_short (length out) (spelled (head (head_over F l.leaves n))) (omega (arith, c.head_len-len.ensures.value)) in
     let p = err_from_is_err_and c.from_residual-in_err-fits.result c.from_residual-in_err-fits.ensures.1 in
     let e = (must_err _ OutputShort _ c.in_err-fits.ensures).1 in
     record {
@@ -56,15 +56,15 @@ returns g c =
     let r : Bytes = spelled (head (head_over F l.leaves n)) in
     let wide : length (root_at F l.leaves n) ≡ g.C.Value.Words.width = ap length (sym found.3) ∙ g.met.C.Value.Words.sized c.in_ok-root.root in
     let long : length r ≡ 8 + g.C.Value.Words.width = length_head (head_over F l.leaves n) ∙ ap (λ (k : ℕ). 8 + k) wide in
-    let room : c.head_len.result ≤ length out = leb_from c.head_len.result (length out) OutputShort c.in_ok-fits.ensures in
+    let room : c.head_len-len.result ≤ length out = leb_from c.head_len-len.result (length out) OutputShort c.in_ok-fits.ensures in
     let accepted : head_answer F l cells (length out) n ≡ Ok r =
     head_checked F l cells (length out) n started some found.0 found.2 found.1
-    ∙ fitting_ok (length out) r (omega (arith, c.head_len.ensures.value)) in
+    ∙ fitting_ok (length out) r (omega (arith, c.head_len-len.ensures.value)) in
     let made = MatchOption-at_some _ _ c.in_ok-head.head c.in_ok-head.ensures.ok_part c.new.ensures in
     let same : head_of g.C.Value.Words.bytes c.in_ok-head.head ≡ head_over F l.leaves n =
     λ i. record { size = made.0 i; root = (ap g.C.Value.Words.bytes made.1 ∙ found.3) i } in
-    let written-there : stored 0 r out ≡ written 0 r out = stored_there 0 r out (omega (arith, c.head_len.ensures.value)) in
+    let written-there : stored 0 r out ≡ written 0 r out = stored_there 0 r out (omega (arith, c.head_len-len.ensures.value)) in
     record {
-      answer = ap (λ (k : ℕ). Ok k) (c.head_len-2.ensures.value ∙ sym long) ∙ sym (ap length_of accepted);
+      answer = ap (λ (k : ℕ). Ok k) (c.head_len-len.ensures.value ∙ sym long) ∙ sym (ap length_of accepted);
       output = c.write_head.ensures ∙ ap (λ (h : Head). stored 0 (spelled (head h)) out) same ∙ written-there ∙ sym (ap (λ (a : Answer Bytes). output_after a out) accepted);
     }
