@@ -1,6 +1,5 @@
 // Two ways up to one root, and the topmost messages on them that differ.
 ghost use Rattle.std.specs.Prelude.{◌≡◌, ℕ, List, length, None, Option as Maybe};
-ghost use Rattle.std.specs.Str.{bytes_eq};
 ghost use Rattle.std.specs.Option.{option_map};
 ghost use Rattle.hash.specs.Hash.{from_zeros};
 ghost use Rattle.paths.specs.Climbs.{joined, parted};
@@ -16,14 +15,14 @@ use tree::spans::Span;
 use tree::ways::{Side, Way};
 
 // What stands under a node.
-#[derive(Clone, Copy)]
+#[derive(Clone, Copy, PartialEq, Eq, Debug)]
 pub struct Node<D> {
     pub left: D,
     pub right: D,
 }
 
 // Two nodes that differ, at the same place of two ways.
-#[derive(Clone, Copy)]
+#[derive(Clone, Copy, PartialEq, Eq, Debug)]
 pub struct Apart<D> {
     pub first: Node<D>,
     pub second: Node<D>,
@@ -37,17 +36,11 @@ struct Ways<D> {
     apart: Option<Apart<D>>,
 }
 
-fn same_node<D: Words>(a: Node<D>, b: Node<D>) -> bool
-    ensures { result ≡ bytes_eq (node_of D.Words.bytes a) (node_of D.Words.bytes b) }
-{
-    a.left == b.left && a.right == b.right
-}
-
 // Two nodes if they differ, or else what is found below them.
 fn topmost<D: Words>(first: Node<D>, second: Node<D>, below: Option<Apart<D>>) -> Option<Apart<D>>
     ensures { (o : Maybe (List ℕ × List ℕ)) → apart_of D.Words.bytes o result ≡ first_apart (node_of D.Words.bytes first) (node_of D.Words.bytes second) (apart_of D.Words.bytes o below) }
 {
-    if same_node(first, second) {
+    if first == second {
         return below;
     }
     Some(Apart { first, second })

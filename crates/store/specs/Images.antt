@@ -7,8 +7,10 @@ use Rattle.record.specs.Records.{spelled, leaf}
 use Rattle.store.specs.Stores.{space_of}
 use Rattle.store.specs.LeafRecords.{record_at, places_in, records_in, leaves_in}
 use Rattle.store.specs.declared.image.Image.{Image}
+use Rattle.std.specs.declared.cmp.PartialEq.{Ghosts as Equality}
+use Rattle.std.specs.declared.default.Default.{Ghosts as Beginning}
 
-module _ {D : Type 0} {words : Ghosts D} (i : Image D words) where
+module _ {D : Type 0} {words : Ghosts D} {equality : Equality D} {beginning : Beginning D} (i : Image D words equality beginning) where
   -- its digests
   abbrev pub image_items : List Bytes
   image_items = leaves_in words.width i.count i.bytes.now
