@@ -1,7 +1,6 @@
 // Two messages, proofs or links that contradict each other, and the collision of the compression behind them.
 #![tactic(auto)]
 
-mod bytes;
 mod inputs;
 mod laws;
 mod links;

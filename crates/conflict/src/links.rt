@@ -9,7 +9,6 @@ ghost use Rattle.conflict.specs.Two.{two_links_of, roots_of_links};
 ghost use Rattle.conflict.specs.Conflicts.{two_links, conflict_links_answer};
 ghost use Rattle.conflict.specs.Laws.{LinksExact, LinksWritten};
 
-use crate::bytes::both_same;
 use crate::laws::{links_exact, links_written};
 use crate::papers::links_apart;
 use crate::two::TwoLinks;
@@ -60,10 +59,7 @@ fn found<C: Compression>(
     ensures output { out.new ≡ output_after (conflict_links_answer (from_zeros C.Value.Words.width C.Compression.f) (length spans.old) (length out.old) old.now link.now other_old.now other_link.now new.now) out.old }
 {
     let two = accepted(c, old, link, other_old, other_link, new, spans)?;
-    must(
-        !both_same(old, other_old, link, other_link),
-        Refusal::EqualPapers,
-    )?;
+    must((old, link) != (other_old, other_link), Refusal::EqualPapers)?;
     let l = two.first;
     let k = two.second;
     let pair = links_apart(

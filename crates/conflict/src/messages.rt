@@ -5,7 +5,6 @@ ghost use Rattle.release_log.specs.Buffers.{length_of, output_after};
 ghost use Rattle.conflict.specs.Conflicts.{conflict_messages_answer};
 ghost use Rattle.conflict.specs.Laws.{MessagesExact, MessagesWritten};
 
-use crate::bytes::same_bytes;
 use crate::inputs::inputs_apart;
 use crate::laws::{messages_exact, messages_written};
 use crate::write::write_pair;
@@ -38,7 +37,7 @@ fn found<C: Compression>(c: &C, x: &[u8], y: &[u8], out: &mut [u8]) -> Result<us
 {
     must(x.len() <= LONGEST, Refusal::TooLong { input: 1 })?;
     must(y.len() <= LONGEST, Refusal::TooLong { input: 2 })?;
-    must(!same_bytes(x, y), Refusal::EqualMessages)?;
+    must(x != y, Refusal::EqualMessages)?;
     must(digest(c, x) == digest(c, y), Refusal::UnequalDigests)?;
     let pair = inputs_apart(c, x, y).ok_or(Refusal::EqualMessages)?;
     write_pair(pair, out)

@@ -9,7 +9,6 @@ ghost use Rattle.paths.specs.Parts.{node_of};
 ghost use Rattle.record.specs.Views.{collision_of};
 ghost use Rattle.conflict.specs.Pairs.{proofs_pair, links_pair};
 
-use crate::bytes::same_bytes;
 use crate::inputs::inputs_apart;
 use cipher::words::Words;
 use hash::compress::Compression;
@@ -36,7 +35,7 @@ pub fn proofs_apart<C: Compression>(
     let second = leaf(c, 0, other_entry).ok()?;
     match path_apart(c, i, n, first, path, second, other_path, spans)? {
         Some(apart) => nodes_apart(c, apart),
-        None if !same_bytes(entry, other_entry) => leaves_apart(c, entry, other_entry),
+        None if entry != other_entry => leaves_apart(c, entry, other_entry),
         None => None,
     }
 }

@@ -9,7 +9,6 @@ ghost use Rattle.conflict.specs.Two.{two_proofs_of};
 ghost use Rattle.conflict.specs.Conflicts.{two_proofs, conflict_proofs_answer};
 ghost use Rattle.conflict.specs.Laws.{ProofsExact, ProofsWritten};
 
-use crate::bytes::both_same;
 use crate::laws::{proofs_exact, proofs_written};
 use crate::papers::proofs_apart;
 use crate::two::TwoProofs;
@@ -61,7 +60,7 @@ fn found<C: Compression>(
 {
     let two = accepted(c, head, entry, proof, other_entry, other_proof, spans)?;
     must(
-        !both_same(entry, other_entry, proof, other_proof),
+        (entry, proof) != (other_entry, other_proof),
         Refusal::EqualPapers,
     )?;
     let p = two.first;

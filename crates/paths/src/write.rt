@@ -6,7 +6,7 @@ ghost use Rattle.tree.specs.Ways.{in_way};
 ghost use Rattle.paths.specs.Payloads.{way_numbers, way_payload, way_size, way_fits, wrote};
 
 use crate::beside::beside;
-use cipher::words::Words;
+use cipher::words::{Words, put};
 use hash::compress::Compression;
 use roots::range::{CELLS, Subtree, range_root};
 use tree::leaves::Leaves;
@@ -17,7 +17,7 @@ fn store_number(n: u32, into: &mut [u8], at: usize)
     requires { at + 4 ≤ length into.old }
     ensures { into.new ≡ written at (little 4 n) into.old }
 {
-    into[at..at + 4].copy_from_slice(&n.to_le_bytes());
+    put(&n.to_le_bytes(), into, at);
 }
 
 // The numbers with which the payload of a way begins: the index and the size, or the two sizes.

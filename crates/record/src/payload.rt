@@ -10,7 +10,7 @@ ghost use Rattle.record.specs.Views.{record_of, input_in, parsed, Whole};
 use crate::collisions::BLOCK_LEN;
 use crate::kinds::Kind;
 use crate::records::{InputBytes, Link, Proof, Record};
-use cipher::words::Words;
+use cipher::words::{Words, bytes_at};
 use refusal::{Refusal, Site, must};
 use tree::spans::{LARGEST, link_len, path_len};
 
@@ -19,7 +19,7 @@ fn number_at(bytes: &[u8], at: usize) -> u32
     requires { at + 4 ≤ length bytes.now }
     ensures { result ≡ number (take 4 (drop at bytes.now)) }
 {
-    u32::from_le_bytes(*bytes[at..].first_chunk().unwrap())
+    u32::from_le_bytes(bytes_at(bytes, at).unwrap())
 }
 
 // A chaining value and the block behind it.

@@ -11,7 +11,7 @@ use crate::frame::HEADER_LEN;
 use crate::heads::Head;
 use crate::kinds::Kind;
 use crate::sizes::{collision_len, entry_len, head_len, leaf_len};
-use cipher::words::Words;
+use cipher::words::{Words, put};
 use tree::digests::LONGEST_ENTRY;
 
 // Whether so many bytes fit in at a place.
@@ -19,16 +19,6 @@ fn has_room(into: &[u8], at: usize, len: usize) -> bool
     ensures { result ≡ nat_le (at + len) (length into.now) }
 {
     at <= into.len() && len <= into.len() - at
-}
-
-// Writes some bytes.
-#[tactic(auto, using(crate::proofs::Writing::no_room))]
-fn put(bytes: &[u8], into: &mut [u8], at: usize)
-    ensures { into.new ≡ stored at bytes.now into.old }
-{
-    if has_room(into, at, bytes.len()) {
-        into[at..at + bytes.len()].copy_from_slice(bytes);
-    }
 }
 
 // Writes a number of a payload.

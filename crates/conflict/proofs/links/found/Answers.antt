@@ -41,7 +41,7 @@ returns-in_err-must g c =
     let found = roots_ok (two_links F cells c.args.old.now c.args.link.now c.args.other_old.now c.args.other_link.now c.args.new.now) (two_links_of w b t) c.in_ok-two.ensures.answer in
     let heads = found.0 in
     let refused : conflict_links_answer F cells (length out) c.args.old.now c.args.link.now c.args.other_old.now c.args.other_link.now c.args.new.now ≡ Err e =
-    bound _ found.1 ∙ stopped _ (ap (λ (z : Bool). must (not z) EqualPapers) (sym c.both_same.ensures) ∙ sym c.in_err-must.ensures) in
+    bound _ found.1 ∙ stopped _ (ap (λ (z : Bool). must z EqualPapers) (sym c.ne.ensures) ∙ sym c.in_err-must.ensures) in
     record { answer = r.1 ∙ ap (λ z. Err z) r.2 ∙ sym (ap length_of refused); output = sym (ap (λ (a : Answer Bytes). output_after a out) refused) }
 
 pub returns-in_err-pair : goal.returns-in_err-pair
@@ -73,7 +73,7 @@ returns-in_err-pair g c =
     ∙ (λ i. links_conflict F heads.0.0 (one i) heads.1.0 (two i)) in
     let run : conflict_links_answer F cells (length out) c.args.old.now c.args.link.now c.args.other_old.now c.args.other_link.now c.args.new.now
     ≡ pair_for (length out) EqualPapers (links_conflict F heads.0.0 heads.0.1 heads.1.0 heads.1.1) =
-    bound _ found.1 ∙ through EqualPapers _ (ap not (sym c.both_same.ensures) ∙ must_last (not c.both_same.result) EqualPapers (sym c.in_ok-must.ensures)) in
+    bound _ found.1 ∙ through EqualPapers _ (sym c.ne.ensures ∙ must_last c.ne.result EqualPapers (sym c.in_ok-must.ensures)) in
     let refused = run ∙ ap (pair_for (length out) EqualPapers) (sym is ∙ sym (ap (option_map (collision_of b)) (sym c.in_err-pair.ensures.ok_part) ∙ c.links_apart.ensures)) in
     let r = err_from_is_err_and c.from_residual-in_err-pair.result c.from_residual-in_err-pair.ensures.1 in
     let e = none_err EqualPapers c.in_err-pair.field-0.0 c.in_err-pair.ensures.value c.in_err-pair.ensures.ok_part in
@@ -108,7 +108,7 @@ returns g c =
     ∙ (λ i. links_conflict F heads.0.0 (one i) heads.1.0 (two i)) in
     let run : conflict_links_answer F cells (length out) c.args.old.now c.args.link.now c.args.other_old.now c.args.other_link.now c.args.new.now
     ≡ pair_for (length out) EqualPapers (links_conflict F heads.0.0 heads.0.1 heads.1.0 heads.1.1) =
-    bound _ found.1 ∙ through EqualPapers _ (ap not (sym c.both_same.ensures) ∙ must_last (not c.both_same.result) EqualPapers (sym c.in_ok-must.ensures)) in
+    bound _ found.1 ∙ through EqualPapers _ (sym c.ne.ensures ∙ must_last c.ne.result EqualPapers (sym c.in_ok-must.ensures)) in
     let wrote = run ∙ ap (pair_for (length out) EqualPapers) (sym is ∙ sym (ap (option_map (collision_of b)) (sym c.in_ok-pair.ensures.ok_part) ∙ c.links_apart.ensures)) in
     record {
       answer = c.write_pair.ensures.answer ∙ sym (ap length_of wrote);

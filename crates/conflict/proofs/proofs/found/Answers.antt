@@ -32,7 +32,7 @@ returns-in_err-pair g c =
     let whole = c.in_ok-two.ensures.whole in
     let is = proofs_pair_holds F later enough e d k.1.0 p.index p.size q.index q.size p.path.now q.path.now k.1.1 whole.0 whole.1 in
     let run : conflict_proofs_answer F cells (length out) c.args.head.now e c.args.proof.now d c.args.other_proof.now ≡ pair_for (length out) EqualPapers (proofs_conflict F e (proof_of w p) d (proof_of w q)) =
-    bound _ two ∙ through EqualPapers _ (ap not (sym c.both_same.ensures) ∙ must_last (not c.both_same.result) EqualPapers (sym c.in_ok-must.ensures)) in
+    bound _ two ∙ through EqualPapers _ (sym c.ne.ensures ∙ must_last c.ne.result EqualPapers (sym c.in_ok-must.ensures)) in
     let refused = run ∙ ap (pair_for (length out) EqualPapers) (sym is ∙ sym (ap (option_map (collision_of b)) (sym c.in_err-pair.ensures.ok_part) ∙ c.proofs_apart.ensures)) in
     let r = err_from_is_err_and c.from_residual-in_err-pair.result c.from_residual-in_err-pair.ensures.1 in
     let e = none_err EqualPapers c.in_err-pair.field-0.0 c.in_err-pair.ensures.value c.in_err-pair.ensures.ok_part in
@@ -58,7 +58,7 @@ returns g c =
     let whole = c.in_ok-two.ensures.whole in
     let is = proofs_pair_holds F later enough e d k.1.0 p.index p.size q.index q.size p.path.now q.path.now k.1.1 whole.0 whole.1 in
     let run : conflict_proofs_answer F cells (length out) c.args.head.now e c.args.proof.now d c.args.other_proof.now ≡ pair_for (length out) EqualPapers (proofs_conflict F e (proof_of w p) d (proof_of w q)) =
-    bound _ two ∙ through EqualPapers _ (ap not (sym c.both_same.ensures) ∙ must_last (not c.both_same.result) EqualPapers (sym c.in_ok-must.ensures)) in
+    bound _ two ∙ through EqualPapers _ (sym c.ne.ensures ∙ must_last c.ne.result EqualPapers (sym c.in_ok-must.ensures)) in
     let wrote = run ∙ ap (pair_for (length out) EqualPapers) (sym is ∙ sym (ap (option_map (collision_of b)) (sym c.in_ok-pair.ensures.ok_part) ∙ c.proofs_apart.ensures)) in
     record {
       answer = c.write_pair.ensures.answer ∙ sym (ap length_of wrote);
