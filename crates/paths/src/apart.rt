@@ -16,14 +16,14 @@ use tree::spans::Span;
 use tree::ways::{Side, Way};
 
 // What stands under a node.
-#[derive(Clone, Copy)]
+#[derive(Clone, Copy, PartialEq, Eq, Debug, Default)]
 pub struct Node<D> {
     pub left: D,
     pub right: D,
 }
 
 // Two nodes that differ, at the same place of two ways.
-#[derive(Clone, Copy)]
+#[derive(Clone, Copy, PartialEq, Eq, Debug, Default)]
 pub struct Apart<D> {
     pub first: Node<D>,
     pub second: Node<D>,
