@@ -20,7 +20,7 @@ use tree::spans::LARGEST;
 pub const CELLS: usize = 21;
 
 // The root over 2 ^ `height` leaves.
-#[derive(Clone, Copy)]
+#[derive(Clone, Copy, PartialEq, Eq, Debug, Default)]
 pub struct Subtree<D> {
     pub height: u8,
     pub digest: D,

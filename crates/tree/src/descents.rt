@@ -53,6 +53,7 @@ impl Iterator for Descent {
 
     ghost remaining = { item_count spans_left };
 
+    #[tactic(auto, using(crate::proofs::Onward::on_first, crate::proofs::Onward::at_start, crate::proofs::Onward::at_end))]
     fn next(&mut self) -> Option<Span> {
         let part = self.part;
         if self.way.ends_with(part) {

@@ -53,7 +53,7 @@ pub fn leaf<C: Compression>(c: &C, input: u8, entry: &[u8]) -> Result<C::Value, 
     if entry.len() < 64 {
         Ok(leaf_digest(c, entry, &mut [0; 64]))
     } else {
-        Ok(leaf_digest(c, entry, &mut [0; 4097]))
+        Ok(leaf_digest(c, entry, &mut [0; LONGEST_ENTRY + 1]))
     }
 }
 
