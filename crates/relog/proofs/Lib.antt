@@ -1,5 +1,2 @@
-mod Digits
-mod Naming
 mod Runs
-mod Shown
 mod Whole
