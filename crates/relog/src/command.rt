@@ -33,7 +33,7 @@ pub struct Request {
     pub size: usize,
 }
 
-// What a line leads to: an answer, or a new store, log and feeder.
+// What a line leads to: an answer, or a new store and log.
 #[derive(Drop)]
 pub enum Outcome {
     Answered(Answer),

@@ -75,6 +75,7 @@ impl<'a> fmt::Display for Failure<'a> {
         match self {
             Failure::Fault(fault) => write!(f, "error: {fault}"),
             Failure::Refused(refusal) => {
+                // What a refusal returns, as text.
                 let r = refusal.returned();
                 let (number, input, place) = (r.number, r.input, r.place);
                 write!(f, "refused {number} input {input} place {place}")
