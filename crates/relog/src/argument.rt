@@ -1,12 +1,14 @@
 // The arguments of commands.
-ghost use Rattle.std.specs.Prelude.{◌≡◌, ◌≤◌, ◌++◌, IfOk, vec_len, MatchResult, OnOk};
+ghost use Rattle.std.specs.Prelude.{◌≡◌, ◌≢◌, ◌≤◌, ◌++◌, length, IfOk, vec_len, MatchResult, OnOk};
 ghost use Rattle.std.specs.Str.Parse.{digits_value};
-ghost use Rattle.relog.specs.Arguments.{Number, copies, most_bytes};
+ghost use Rattle.std.specs.List.{repeat as times_over};
+ghost use Rattle.relog.specs.Arguments.{Number, most_bytes};
 
 use crate::fault::Fault;
 use crate::kept::is_name;
 use crate::session::Session;
 use hexadecimal::decode;
+use std::alloc::Global;
 
 // How many bytes a command's arguments may have.
 pub const LIMIT: usize = 16777216;
@@ -55,7 +57,9 @@ pub fn number(word: &str) -> Result<usize, Fault<'_>>
 }
 
 // The words, if a command that takes `N` of them has as many.
-pub fn exactly<'w, 'a, T, const N: usize>(words: &'w [T]) -> Result<&'w [T; N], Fault<'a>> {
+pub fn exactly<'w, 'a, T, const N: usize>(words: &'w [T]) -> Result<&'w [T; N], Fault<'a>>
+    ensures { MatchResult result (λ y. y.now ≡ words.now) (λ _. length words.now ≢ N) }
+{
     words.as_array().ok_or(Fault::WordCount {
         takes: N,
         given: words.len(),
@@ -63,15 +67,13 @@ pub fn exactly<'w, 'a, T, const N: usize>(words: &'w [T]) -> Result<&'w [T; N], 
 }
 
 // Adds the bytes `times` times, if that does not make too many.
-fn repeat<'a>(all: &mut Vec<u8>, bytes: &[u8], times: usize) -> Result<(), Fault<'a>>
-    ensures items { OnOk result (all.new.items ≡ all.old.items ++ copies times bytes.now) }
+fn repeat<'a>(heap: Global, all: &mut Vec<u8>, bytes: &[u8], times: usize) -> Result<(), Fault<'a>>
+    ensures items { OnOk result (all.new.items ≡ all.old.items ++ times_over times bytes.now) }
     ensures few { OnOk result (vec_len all.new ≤ most_bytes) }
 {
     match bytes.len().checked_mul(times) {
         Some(more) if more <= LIMIT && all.len() <= LIMIT - more => {
-            for _ in 0..times {
-                all.extend_from_slice(bytes)?;
-            }
+            all.extend_from_slice(bytes.repeat(heap, times)?.as_slice())?;
             Ok(())
         }
         _ => Err(Fault::TooManyBytes),
@@ -87,11 +89,11 @@ fn add<'a>(all: &mut Vec<u8>, session: &Session, word: &'a str) -> Result<(), Fa
         Argument::Empty => Ok(()),
         Argument::Kept(name) => {
             let bytes = session.kept.get(name).ok_or(Fault::NotKept(name))?;
-            repeat(all, bytes, 1)
+            repeat(session.heap, all, bytes, 1)
         }
         Argument::Hexadecimal { digits, times } => {
             let bytes = decode(session.heap, digits)?.ok_or(Fault::BadHexadecimal(word))?;
-            repeat(all, bytes.as_slice(), times)
+            repeat(session.heap, all, bytes.as_slice(), times)
         }
     }
 }
