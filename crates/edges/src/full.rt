@@ -3,6 +3,7 @@ use crate::{tell, tell_refusal};
 use cipher::words::{Block, Words};
 use hash::compress::DaviesMeyer;
 use hash::digest::digest;
+use hexadecimal::Hex;
 use record::single::{read_head, read_link, read_proof};
 use record::write::write_number;
 use refusal::Refusal;
@@ -30,7 +31,8 @@ const DIGEST: usize = 16;
 // A digest, and behind it room for a record of any kind that a log writes.
 const SEEN: usize = 528;
 
-// What a call is lent, and the digest over the records so far.
+// What a call is lent, and the digest over the records so far. `speed` has a struct with these fields: in a crate for both, each
+// of its calls would want a contract and a proof that no program needs.
 #[derive(Drop)]
 pub struct Lent {
     pub spans: [Span; CELLS],
@@ -50,47 +52,50 @@ impl Lent {
         }
     }
 
-    // The record of some length that a call wrote.
-    fn record(&self, len: usize) -> &[u8] {
-        &self.seen[DIGEST..DIGEST + len.min(SEEN - DIGEST)]
-    }
-
-    // Writes the digest over the digest so far and a record in place of the former.
-    fn take_in(&mut self, len: usize) {
-        digest(&SPECK, &self.seen[0..DIGEST + len.min(SEEN - DIGEST)]).store(&mut self.seen, 0);
+    // Makes a call, reads the record that it wrote, and writes the digest over the digest so far and the record in place of
+    // the former.
+    fn take_in<F, G>(&mut self, call: F, read: G) -> Result<(), Refusal>
+    where
+        F: FnOnce(&mut [Span], &mut [Subtree<Block>], &mut [u8]) -> Result<usize, Refusal>,
+        G: FnOnce(&[u8]) -> Result<(), Refusal>,
+        requires call { F.IsAlwaysCallable call }
+        requires read { G.IsAlwaysCallable read }
+    {
+        let len = call(&mut self.spans, &mut self.cells, &mut self.seen[DIGEST..])?;
+        let end = DIGEST + len.min(SEEN - DIGEST);
+        read(&self.seen[DIGEST..end])?;
+        digest(&SPECK, &self.seen[0..end]).store(&mut self.seen, 0);
+        Ok(())
     }
 
     fn head(&mut self, log: &TableLog<'_>, n: u32) -> Result<(), Refusal> {
-        let len = log.head(n, &mut self.cells, &mut self.seen[DIGEST..])?;
-        read_head::<Block>(1, self.record(len))?;
-        self.take_in(len);
-        Ok(())
+        self.take_in(
+            |_, cells, out| log.head(n, cells, out),
+            |bytes| {
+                read_head::<Block>(1, bytes)?;
+                Ok(())
+            },
+        )
     }
 
     fn proof(&mut self, log: &TableLog<'_>, i: u32, n: u32) -> Result<(), Refusal> {
-        let len = log.prove(
-            i,
-            n,
-            &mut self.spans,
-            &mut self.cells,
-            &mut self.seen[DIGEST..],
-        )?;
-        read_proof::<Block>(1, self.record(len))?;
-        self.take_in(len);
-        Ok(())
+        self.take_in(
+            |spans, cells, out| log.prove(i, n, spans, cells, out),
+            |bytes| {
+                read_proof::<Block>(1, bytes)?;
+                Ok(())
+            },
+        )
     }
 
     fn link(&mut self, log: &TableLog<'_>, m: u32, n: u32) -> Result<(), Refusal> {
-        let len = log.link(
-            m,
-            n,
-            &mut self.spans,
-            &mut self.cells,
-            &mut self.seen[DIGEST..],
-        )?;
-        read_link::<Block>(1, self.record(len))?;
-        self.take_in(len);
-        Ok(())
+        self.take_in(
+            |spans, cells, out| log.link(m, n, spans, cells, out),
+            |bytes| {
+                read_link::<Block>(1, bytes)?;
+                Ok(())
+            },
+        )
     }
 }
 
@@ -109,11 +114,7 @@ fn show_size(rt: &HostRuntime, log: &TableLog<'_>, n: u32) -> anyhow::Result<()>
     let mut lent = Lent::new();
     match over_records(&mut lent, log, n) {
         Ok(()) => {
-            print!(rt; "{what}: ")?;
-            for byte in lent.seen.iter().take(DIGEST) {
-                print!(rt; "{byte:02x}")?;
-            }
-            println!(rt; "")?;
+            println!(rt; "{what}: {}", Hex(&lent.seen[0..DIGEST]))?;
             Ok(())
         }
         Err(refusal) => tell_refusal(rt, what.as_str(), refusal),
@@ -139,10 +140,20 @@ fn show_sizes(rt: &HostRuntime, log: &TableLog<'_>) -> anyhow::Result<()> {
     show_size(rt, log, 2)?;
     for k in 2..=20u32 {
         let power = 1u32 << k;
-        show_size(rt, log, power.saturating_sub(1))?;
-        show_size(rt, log, power)?;
-        show_size(rt, log, power.saturating_add(1))?;
+        for n in [power.saturating_sub(1), power, power.saturating_add(1)] {
+            show_size(rt, log, n)?;
+        }
     }
+    Ok(())
+}
+
+pub fn tell_state(rt: &HostRuntime, log: &TableLog<'_>) -> anyhow::Result<()> {
+    println!(rt;
+        "count {} room {} used {}",
+        log.count(),
+        log.room(),
+        log.used()
+    )?;
     Ok(())
 }
 
@@ -153,18 +164,8 @@ pub fn run(rt: &HostRuntime) -> anyhow::Result<()> {
     let mut log = Log::new(Table::new(cells.as_mut_slice()), SPECK);
     println!(rt; "room {}", log.room())?;
     tell(rt, "1048576 entries", fill(&mut log, file.as_mut_slice()))?;
-    println!(rt;
-        "count {} room {} used {}",
-        log.count(),
-        log.room(),
-        log.used()
-    )?;
+    tell_state(rt, &log)?;
     tell(rt, "one more", add(&mut log, 0, file.as_mut_slice()))?;
-    println!(rt;
-        "count {} room {} used {}",
-        log.count(),
-        log.room(),
-        log.used()
-    )?;
+    tell_state(rt, &log)?;
     show_sizes(rt, &log)
 }

@@ -1,5 +1,5 @@
 // A log that is made over a store with leaves: it answers the store's questions and refuses all else.
-use crate::full::{Lent, SPECK, ZERO};
+use crate::full::{Lent, SPECK, ZERO, tell_state};
 use crate::tell;
 use release_log::Log;
 use store::Store;
@@ -36,11 +36,5 @@ pub fn run(rt: &HostRuntime) -> anyhow::Result<()> {
         "link",
         log.link(1, 1, &mut lent.spans, &mut lent.cells, &mut lent.seen),
     )?;
-    println!(rt;
-        "count {} room {} used {}",
-        log.count(),
-        log.room(),
-        log.used()
-    )?;
-    Ok(())
+    tell_state(rt, &log)
 }

@@ -4,9 +4,7 @@ use cipher::words::Block;
 use record::kinds::Kind;
 use record::single::{read_head, read_link, read_proof};
 use record::write::{write_header, write_number};
-
-// The longest link: a header, two numbers and 21 digests. One digest more is too many.
-const LONGEST: usize = 4 + 8 + 22 * 16;
+use std::alloc::{AllocError, Global};
 
 // Reads a head of a size.
 fn head(rt: &HostRuntime, n: u32) -> anyhow::Result<()> {
@@ -17,27 +15,27 @@ fn head(rt: &HostRuntime, n: u32) -> anyhow::Result<()> {
     tell(rt, what.as_str(), read_head::<Block>(1, &bytes))
 }
 
-// A record with two numbers and so many digests of zeros.
-fn record(kind: Kind, a: u32, b: u32, digests: u16) -> [u8; LONGEST] {
-    let mut bytes = [0u8; LONGEST];
-    write_header(kind, 8 + 16 * digests.min(22), &mut bytes, 0);
-    write_number(a, &mut bytes, 4);
-    write_number(b, &mut bytes, 8);
-    bytes
+// A record with two numbers and so many digests of zeros, of which at most one is too many for any record.
+fn record(heap: Global, kind: Kind, a: u32, b: u32, digests: u16) -> Result<Vec<u8>, AllocError> {
+    let payload = 8 + 16 * digests.min(22);
+    let mut bytes = vec![in heap; 0; 4 + payload as usize]?;
+    let into = bytes.as_mut_slice();
+    write_header(kind, payload, into, 0);
+    write_number(a, into, 4);
+    write_number(b, into, 8);
+    Ok(bytes)
 }
 
 fn proof(rt: &HostRuntime, i: u32, n: u32, digests: u16) -> anyhow::Result<()> {
-    let bytes = record(Kind::Proof, i, n, digests);
+    let bytes = record(rt.alloc(), Kind::Proof, i, n, digests)?;
     let what = format!(in rt.alloc(); "proof of {i} in {n} with {digests}")?;
-    let len = 12 + 16 * digests.min(22) as usize;
-    tell(rt, what.as_str(), read_proof::<Block>(1, &bytes[0..len]))
+    tell(rt, what.as_str(), read_proof::<Block>(1, bytes.as_slice()))
 }
 
 fn link(rt: &HostRuntime, m: u32, n: u32, digests: u16) -> anyhow::Result<()> {
-    let bytes = record(Kind::Link, m, n, digests);
+    let bytes = record(rt.alloc(), Kind::Link, m, n, digests)?;
     let what = format!(in rt.alloc(); "link from {m} to {n} with {digests}")?;
-    let len = 12 + 16 * digests.min(22) as usize;
-    tell(rt, what.as_str(), read_link::<Block>(1, &bytes[0..len]))
+    tell(rt, what.as_str(), read_link::<Block>(1, bytes.as_slice()))
 }
 
 pub fn run(rt: &HostRuntime) -> anyhow::Result<()> {

@@ -1,5 +1,4 @@
 pub mod Answers
 pub mod Arguments
 pub mod Comments
-pub mod Hex
 pub mod Names

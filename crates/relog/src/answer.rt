@@ -1,11 +1,8 @@
 // What a command that was run answers.
 ghost use Rattle.std.specs.Prelude.{◌≡◌};
-ghost use Rattle.std.specs.Option.{option_map};
-ghost use Rattle.std.specs.Result.{result_ok};
-ghost use Rattle.relog.specs.Answers.{told};
+ghost use Rattle.relog.specs.Answers.{written};
 
-use crate::hex::Hex;
-use refusal::Refusal;
+use hexadecimal::Hex;
 use std::fmt;
 
 #[derive(Drop)]
@@ -14,18 +11,16 @@ pub enum Answer {
     Number(usize),
     Missing,
     Bytes(Vec<u8>),
-    Refused(Refusal),
 }
 
 impl Answer {
-    // The bytes that the command wrote, unless it was refused.
-    pub fn written(&self) -> Option<&[u8]>
-        ensures { option_map (λ x. x.now) result ≡ result_ok (told self.now) }
+    // The bytes that the command wrote.
+    pub fn written(&self) -> &[u8]
+        ensures { result.now ≡ written self.now }
     {
         match self {
-            Answer::Done | Answer::Number(_) | Answer::Missing => Some(&[]),
-            Answer::Bytes(bytes) => Some(bytes.as_slice()),
-            Answer::Refused(_) => None,
+            Answer::Done | Answer::Number(_) | Answer::Missing => &[],
+            Answer::Bytes(bytes) => bytes.as_slice(),
         }
     }
 }
@@ -36,18 +31,8 @@ impl fmt::Display for Answer {
             Answer::Done => write!(f, "ok"),
             Answer::Number(n) => write!(f, "{n}"),
             Answer::Missing => write!(f, "none"),
-            Answer::Bytes(bytes) => {
-                if bytes.is_empty() {
-                    return write!(f, "-");
-                }
-                let digits = Hex(bytes.as_slice());
-                write!(f, "{digits}")
-            }
-            Answer::Refused(refusal) => {
-                let r = refusal.returned();
-                let (number, input, place) = (r.number, r.input, r.place);
-                write!(f, "refused {number} input {input} place {place}")
-            }
+            Answer::Bytes(bytes) if bytes.is_empty() => write!(f, "-"),
+            Answer::Bytes(bytes) => write!(f, "{}", Hex(bytes.as_slice())),
         }
     }
 }

@@ -1,12 +1,14 @@
 // The arguments of commands.
-ghost use Rattle.std.specs.Prelude.{◌≡◌, ◌≤◌, ◌++◌, IfOk, vec_len, MatchResult, OnOk};
+ghost use Rattle.std.specs.Prelude.{◌≡◌, ◌≢◌, ◌≤◌, ◌++◌, length, IfOk, vec_len, MatchResult, OnOk};
 ghost use Rattle.std.specs.Str.Parse.{digits_value};
-ghost use Rattle.relog.specs.Arguments.{Number, copies, most_bytes};
+ghost use Rattle.std.specs.List.{repeat as times_over};
+ghost use Rattle.relog.specs.Arguments.{Number, most_bytes};
 
 use crate::fault::Fault;
-use crate::hex::decode;
 use crate::kept::is_name;
 use crate::session::Session;
+use hexadecimal::decode;
+use std::alloc::Global;
 
 // How many bytes a command's arguments may have.
 pub const LIMIT: usize = 16777216;
@@ -19,8 +21,10 @@ enum Argument<'a> {
     Hexadecimal { digits: &'a str, times: usize },
 }
 
-impl<'a> Argument<'a> {
-    fn read(word: &'a str) -> Result<Argument<'a>, Fault<'a>> {
+impl<'a> TryFrom<&'a str> for Argument<'a> {
+    type Error = Fault<'a>;
+
+    fn try_from(word: &'a str) -> Result<Argument<'a>, Fault<'a>> {
         if word == "-" {
             return Ok(Argument::Empty);
         }
@@ -49,22 +53,27 @@ pub fn number(word: &str) -> Result<usize, Fault<'_>>
     if word.starts_with('+') {
         return Err(Fault::BadNumber(word));
     }
-    match word.parse() {
-        Ok(n) => Ok(n),
-        Err(_) => Err(Fault::BadNumber(word)),
-    }
+    word.parse().map_err(|_| Fault::BadNumber(word))
+}
+
+// The words, if a command that takes `N` of them has as many.
+pub fn exactly<'w, 'a, T, const N: usize>(words: &'w [T]) -> Result<&'w [T; N], Fault<'a>>
+    ensures { MatchResult result (λ y. y.now ≡ words.now) (λ _. length words.now ≢ N) }
+{
+    words.as_array().ok_or(Fault::WordCount {
+        takes: N,
+        given: words.len(),
+    })
 }
 
 // Adds the bytes `times` times, if that does not make too many.
-fn repeat<'a>(all: &mut Vec<u8>, bytes: &[u8], times: usize) -> Result<(), Fault<'a>>
-    ensures items { OnOk result (all.new.items ≡ all.old.items ++ copies times bytes.now) }
+fn repeat<'a>(heap: Global, all: &mut Vec<u8>, bytes: &[u8], times: usize) -> Result<(), Fault<'a>>
+    ensures items { OnOk result (all.new.items ≡ all.old.items ++ times_over times bytes.now) }
     ensures few { OnOk result (vec_len all.new ≤ most_bytes) }
 {
     match bytes.len().checked_mul(times) {
         Some(more) if more <= LIMIT && all.len() <= LIMIT - more => {
-            for _ in 0..times {
-                all.extend_from_slice(bytes)?;
-            }
+            all.extend_from_slice(bytes.repeat(heap, times)?.as_slice())?;
             Ok(())
         }
         _ => Err(Fault::TooManyBytes),
@@ -76,29 +85,24 @@ fn add<'a>(all: &mut Vec<u8>, session: &Session, word: &'a str) -> Result<(), Fa
     requires { vec_len all.old ≤ most_bytes }
     ensures { OnOk result (vec_len all.new ≤ most_bytes) }
 {
-    match Argument::read(word)? {
+    match Argument::try_from(word)? {
         Argument::Empty => Ok(()),
         Argument::Kept(name) => {
-            let Some(bytes) = session.kept.get(name) else {
-                return Err(Fault::NotKept(name));
-            };
-            repeat(all, bytes, 1)
+            let bytes = session.kept.get(name).ok_or(Fault::NotKept(name))?;
+            repeat(session.heap, all, bytes, 1)
         }
         Argument::Hexadecimal { digits, times } => {
-            let Some(bytes) = decode(session.heap, digits)? else {
-                return Err(Fault::BadHexadecimal(word));
-            };
-            repeat(all, bytes.as_slice(), times)
+            let bytes = decode(session.heap, digits)?.ok_or(Fault::BadHexadecimal(word))?;
+            repeat(session.heap, all, bytes.as_slice(), times)
         }
     }
 }
 
+// The bytes that a word stands for.
 pub fn word_bytes<'a>(session: &Session, word: &'a str) -> Result<Vec<u8>, Fault<'a>>
     ensures { IfOk result (λ v. vec_len v ≤ most_bytes) }
 {
-    let mut all = Vec::new(session.heap);
-    add(&mut all, session, word)?;
-    Ok(all)
+    joined_bytes(session, &[word])
 }
 
 // The bytes that the words stand for, joined.

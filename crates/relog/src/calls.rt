@@ -1,75 +1,54 @@
-// The commands that work with the compression in use, a function each.
-ghost use Rattle.std.specs.Prelude.{◌≡◌, IfOk};
+// The commands that work with the compression in use, and with no store.
+ghost use Rattle.std.specs.Prelude.{◌≡◌, ◌⊎◌, IfOk, Some, Err};
 ghost use Rattle.hash.specs.Hash.{from_zeros, hash_answer};
+ghost use Rattle.relog.specs.declared.fault.Fault.TheVariants.{NoMemory};
+ghost use Rattle.relog.specs.declared.fault.Failure.TheVariants.{Fault as Faulty};
 ghost use Rattle.relog.specs.Answers.{told};
 
 use crate::answer::Answer;
-use crate::argument::word_bytes;
-use crate::fault::Fault;
-use crate::mode::Mode;
+use crate::argument::{exactly, word_bytes};
+use crate::fault::{Failure, Fault};
+use crate::mode::UnderCompression;
 use crate::session::Session;
-use aes::Aes128;
 use cipher::words::Words;
-use hash::compress::{Compression, DaviesMeyer, Fold, MatyasMeyerOseas, MiyaguchiPreneel};
+use hash::compress::Compression;
 use hash::digest::hash;
-use speck::Speck128;
 use std::alloc::{AllocError, Global};
 
-#[derive(Clone, Copy)]
-pub enum Call {
-    Hash,
-}
-
-// Every call finds its compression here, and nowhere else.
-pub fn run_call<'a>(
-    session: &mut Session,
-    call: Call,
-    words: &[&'a str],
-) -> Result<Answer, Fault<'a>> {
-    let Some(mode) = session.mode else {
-        return Err(Fault::NoCompression);
-    };
-    match mode {
-        Mode::Fold => run_under(&Fold, session, call, words),
-        Mode::DmAes => run_under(&DaviesMeyer { cipher: Aes128 }, session, call, words),
-        Mode::MmoAes => run_under(&MatyasMeyerOseas { cipher: Aes128 }, session, call, words),
-        Mode::MpAes => run_under(&MiyaguchiPreneel { cipher: Aes128 }, session, call, words),
-        Mode::DmSpeck => run_under(&DaviesMeyer { cipher: Speck128 }, session, call, words),
-        Mode::MmoSpeck => run_under(&MatyasMeyerOseas { cipher: Speck128 }, session, call, words),
-        Mode::MpSpeck => run_under(&MiyaguchiPreneel { cipher: Speck128 }, session, call, words),
-    }
-}
-
-fn run_under<'a, C: Compression>(
-    c: &C,
-    session: &mut Session,
-    call: Call,
-    words: &[&'a str],
-) -> Result<Answer, Fault<'a>> {
-    match call {
-        Call::Hash => hash_message(c, session, words),
-    }
-}
-
-fn hash_message<'a, C: Compression>(
-    c: &C,
-    session: &Session,
-    words: &[&'a str],
-) -> Result<Answer, Fault<'a>> {
-    let [message] = words else {
-        return Err(Fault::miscount(1, words));
-    };
+pub fn hash_message<'a>(session: &Session, words: &[&'a str]) -> Result<Answer, Failure<'a>> {
+    let mode = session.mode.ok_or(Fault::NoCompression)?;
+    let [message] = *exactly::<_, 1>(words)?;
     let message = word_bytes(session, message)?;
-    Ok(hash_answer(c, session.heap, message.as_slice())?)
+    mode.run(Message {
+        heap: session.heap,
+        bytes: message.as_slice(),
+    })
 }
 
-fn hash_answer<C: Compression>(c: &C, heap: Global, message: &[u8]) -> Result<Answer, AllocError>
-    ensures { IfOk result (λ a. told a ≡ hash_answer (from_zeros C.Value.Words.width C.Compression.f) message.now) }
-{
-    match hash(c, message) {
-        Ok(digest) => Ok(Answer::Bytes(bytes_of(heap, digest)?)),
-        Err(refusal) => Ok(Answer::Refused(refusal)),
+// A message that is to be hashed.
+#[derive(Drop)]
+struct Message<'m> {
+    heap: Global,
+    bytes: &'m [u8],
+}
+
+impl<'m> UnderCompression for Message<'m> {
+    type Output = Result<Answer, Failure<'static>>;
+
+    fn run<C: Compression + Drop>(self, compression: C) -> Result<Answer, Failure<'static>> {
+        hash_answer(&compression, self.heap, self.bytes)
     }
+}
+
+fn hash_answer<'a, C: Compression>(
+    c: &C,
+    heap: Global,
+    message: &[u8],
+) -> Result<Answer, Failure<'a>>
+    ensures { (result ≡ Err (Faulty NoMemory)) ⊎ (told result ≡ Some (hash_answer (from_zeros C.Value.Words.width C.Compression.f) message.now)) }
+{
+    let digest = hash(c, message)?;
+    Ok(Answer::Bytes(bytes_of(heap, digest)?))
 }
 
 // A copy of the bytes that words stand for.

@@ -1,9 +1,14 @@
-// What keeps a command from being run.
+// What keeps a command from an answer.
+ghost use Rattle.std.specs.Prelude.{◌≡◌};
+ghost use Rattle.relog.specs.declared.fault.Fault.TheVariants.{NoMemory};
+ghost use Rattle.relog.specs.declared.fault.Failure.TheVariants.{Fault as Faulty, Refused};
+
 use crate::argument::LIMIT;
+use refusal::Refusal;
 use std::alloc::AllocError;
 use std::fmt;
 
-// A fault that is about one word holds it.
+// What keeps a command from being run. A fault that is about one word holds it.
 #[derive(Clone, Copy)]
 pub enum Fault<'a> {
     NoCommand,
@@ -20,16 +25,6 @@ pub enum Fault<'a> {
     NoStore,
     TooManyBytes,
     NoMemory,
-}
-
-impl<'a> Fault<'a> {
-    // The fault of words that are not as many as a command takes.
-    pub fn miscount(takes: usize, words: &[&'a str]) -> Fault<'a> {
-        Fault::WordCount {
-            takes,
-            given: words.len(),
-        }
-    }
 }
 
 impl<'a> fmt::Display for Fault<'a> {
@@ -61,7 +56,54 @@ impl<'a> fmt::Display for Fault<'a> {
 }
 
 impl<'a> From<AllocError> for Fault<'a> {
+    ghost from_gives = { λ _ y. y ≡ NoMemory };
+
     fn from(_e: AllocError) -> Fault<'a> {
         Fault::NoMemory
+    }
+}
+
+// A command that was not run, or a call that was refused.
+#[derive(Clone, Copy)]
+pub enum Failure<'a> {
+    Fault(Fault<'a>),
+    Refused(Refusal),
+}
+
+impl<'a> fmt::Display for Failure<'a> {
+    fn fmt<W: fmt::Write>(&self, f: &mut fmt::Formatter<W>) -> fmt::Result {
+        match self {
+            Failure::Fault(fault) => write!(f, "error: {fault}"),
+            Failure::Refused(refusal) => {
+                // What a refusal returns, as text.
+                let r = refusal.returned();
+                let (number, input, place) = (r.number, r.input, r.place);
+                write!(f, "refused {number} input {input} place {place}")
+            }
+        }
+    }
+}
+
+impl<'a> From<Fault<'a>> for Failure<'a> {
+    ghost from_gives = { λ x y. y ≡ Faulty x };
+
+    fn from(fault: Fault<'a>) -> Failure<'a> {
+        Failure::Fault(fault)
+    }
+}
+
+impl<'a> From<AllocError> for Failure<'a> {
+    ghost from_gives = { λ _ y. y ≡ Faulty NoMemory };
+
+    fn from(e: AllocError) -> Failure<'a> {
+        Failure::Fault(Fault::from(e))
+    }
+}
+
+impl<'a> From<Refusal> for Failure<'a> {
+    ghost from_gives = { λ x y. y ≡ Refused x };
+
+    fn from(refusal: Refusal) -> Failure<'a> {
+        Failure::Refused(refusal)
     }
 }

@@ -3,6 +3,7 @@ ghost use Rattle.std.specs.Prelude.{◌≡◌, ℕ, List, Some, None, MatchResul
 ghost use Rattle.std.specs.Str.{bytes_eq as same_text};
 ghost use Rattle.std.specs.Map.{update};
 ghost use Rattle.std.specs.Option.{option_map};
+ghost use Rattle.std.specs.List.{list_all};
 ghost use Rattle.relog.specs.Names.{held, is_name, name_byte};
 
 use std::alloc::{AllocError, Global};
@@ -13,15 +14,16 @@ pub fn is_name(word: &str) -> bool
     ensures { result ≡ is_name word.now }
 {
     let bytes = word.as_bytes();
-    for b in bytes {
-        if !is_name_byte(*b) {
-            return false;
-        }
-    }
-    match bytes.first() {
-        Some(b) => b.is_ascii_alphabetic(),
-        None => false,
-    }
+    let [first, ..] = bytes else {
+        return false;
+    };
+    first.is_ascii_alphabetic() && has_name_bytes(bytes)
+}
+
+fn has_name_bytes(bytes: &[u8]) -> bool
+    ensures { result ≡ list_all name_byte bytes.now }
+{
+    bytes.iter().all(|b| is_name_byte(*b))
 }
 
 fn is_name_byte(b: u8) -> bool
@@ -47,10 +49,7 @@ impl Kept {
     pub fn get(&self, name: &str) -> Option<&[u8]>
         ensures { option_map (λ x. x.now) result ≡ held self.now.names name.now }
     {
-        match self.names.get(name) {
-            Some(bytes) => Some(bytes.as_slice()),
-            None => None,
-        }
+        self.names.get(name).map(|bytes| bytes.as_slice())
     }
 
     // Keeps a copy of the bytes in place of what the name stood for, or where memory fails leaves all as it was.

@@ -42,8 +42,5 @@ fn uncommented(text: &str) -> &str
     ensures cut { (rest : List ℕ) × (text.now ≡ result.now ++ rest) × Comment rest }
     ensures code { (i : ℕ) → i < length result.now → slice_index result.now i ≢ 35 }
 {
-    match text.split_once('#') {
-        Some((code, _)) => code,
-        None => text,
-    }
+    text.split_once('#').map_or(text, |(code, _)| code)
 }

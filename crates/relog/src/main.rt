@@ -12,22 +12,16 @@ mod argument;
 mod calls;
 mod command;
 mod fault;
-mod hex;
 mod kept;
 mod line;
 mod mode;
 mod play;
-mod script;
 mod session;
 mod target;
 
 fn lines<R: Read + Drop>(rt: &HostRuntime, script: R) -> io::Result<Vec<String>> {
     let heap = rt.alloc();
-    let mut all = Vec::new(heap);
-    for text in BufReader::new(heap, script)?.lines(heap) {
-        all.push(text?)?;
-    }
-    Ok(all)
+    BufReader::new(heap, script)?.lines(heap).try_collect(heap)
 }
 
 fn run(rt: &HostRuntime) -> anyhow::Result<()> {
@@ -36,10 +30,11 @@ fn run(rt: &HostRuntime) -> anyhow::Result<()> {
     if args.next().is_some() {
         return Err(anyhow!("usage: relog [FILE]"));
     }
-    match path {
-        None => play(rt, lines(rt, rt.stdin())?.as_slice())?,
-        Some(path) => play(rt, lines(rt, File::open(rt, path)?)?.as_slice())?,
-    }
+    let lines = match path {
+        None => lines(rt, rt.stdin())?,
+        Some(path) => lines(rt, File::open(rt, path)?)?,
+    };
+    play(rt, lines.as_slice())?;
     Ok(())
 }
 

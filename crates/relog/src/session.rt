@@ -12,6 +12,17 @@ pub struct Lent {
     pub evidence: usize,
 }
 
+impl Default for Lent {
+    fn default() -> Lent {
+        Lent {
+            cells: 21,
+            output: 4096,
+            entries: 65536,
+            evidence: 65536,
+        }
+    }
+}
+
 #[derive(Drop)]
 pub struct Session {
     pub heap: Global,
@@ -25,12 +36,7 @@ impl Session {
         Session {
             heap,
             mode: None,
-            lent: Lent {
-                cells: 21,
-                output: 4096,
-                entries: 65536,
-                evidence: 65536,
-            },
+            lent: Lent::default(),
             kept: Kept::new(heap),
         }
     }

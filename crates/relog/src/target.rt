@@ -4,9 +4,9 @@ ghost use Rattle.std.specs.Option.{option_map};
 ghost use Rattle.store.specs.Images.{image_used};
 
 use crate::answer::Answer;
-use crate::argument::{number, word_bytes};
+use crate::argument::{exactly, number, word_bytes};
 use crate::calls::bytes_of;
-use crate::fault::Fault;
+use crate::fault::{Failure, Fault};
 use crate::session::Session;
 use cipher::words::Words;
 use hash::compress::Compression;
@@ -32,13 +32,31 @@ pub enum LogCommand {
     Show,
 }
 
+impl<'a> TryFrom<&'a str> for LogCommand {
+    type Error = Fault<'a>;
+
+    fn try_from(word: &'a str) -> Result<LogCommand, Fault<'a>> {
+        match word {
+            "count" => Ok(LogCommand::Count),
+            "room" => Ok(LogCommand::Room),
+            "leaf" => Ok(LogCommand::Leaf),
+            "append" => Ok(LogCommand::Append),
+            "head" => Ok(LogCommand::Head),
+            "prove" => Ok(LogCommand::Prove),
+            "link" => Ok(LogCommand::Link),
+            "show" => Ok(LogCommand::Show),
+            _ => Err(Fault::UnknownCommand),
+        }
+    }
+}
+
 pub trait Target {
     fn run<'a>(
         &mut self,
         session: &Session,
         command: LogCommand,
         words: &[&'a str],
-    ) -> Result<Answer, Fault<'a>>;
+    ) -> Result<Answer, Failure<'a>>;
 }
 
 // A store whose used bytes can be shown, if it keeps bytes.
@@ -72,8 +90,8 @@ impl Target for NoLog {
         _session: &Session,
         _command: LogCommand,
         _words: &[&'a str],
-    ) -> Result<Answer, Fault<'a>> {
-        Err(Fault::NoStore)
+    ) -> Result<Answer, Failure<'a>> {
+        Err(Failure::Fault(Fault::NoStore))
     }
 }
 
@@ -91,14 +109,14 @@ impl<C: Compression + Drop, S: Store + Leaves<Item = C::Value> + Imaged + Drop> 
         session: &Session,
         command: LogCommand,
         words: &[&'a str],
-    ) -> Result<Answer, Fault<'a>> {
+    ) -> Result<Answer, Failure<'a>> {
         match command {
             LogCommand::Count => {
-                none(words)?;
+                exactly::<_, 0>(words)?;
                 Ok(Answer::Number(self.log.count()))
             }
             LogCommand::Room => {
-                none(words)?;
+                exactly::<_, 0>(words)?;
                 Ok(Answer::Number(self.log.room()))
             }
             LogCommand::Leaf => self.leaf(session, words),
@@ -119,95 +137,60 @@ impl<C: Compression + Drop, S: Store + Leaves<Item = C::Value> + Imaged + Drop> 
         }
     }
 
-    fn leaf<'a>(&self, session: &Session, words: &[&'a str]) -> Result<Answer, Fault<'a>> {
-        let [i] = words else {
-            return Err(Fault::miscount(1, words));
-        };
+    fn leaf<'a>(&self, session: &Session, words: &[&'a str]) -> Result<Answer, Failure<'a>> {
+        let [i] = *exactly::<_, 1>(words)?;
         match self.log.leaf(number(i)?) {
             Some(digest) => Ok(Answer::Bytes(bytes_of(session.heap, digest)?)),
             None => Ok(Answer::Missing),
         }
     }
 
-    fn append<'a>(&mut self, session: &Session, words: &[&'a str]) -> Result<Answer, Fault<'a>> {
-        let [entry] = words else {
-            return Err(Fault::miscount(1, words));
-        };
+    fn append<'a>(&mut self, session: &Session, words: &[&'a str]) -> Result<Answer, Failure<'a>> {
+        let [entry] = *exactly::<_, 1>(words)?;
         let entry = word_bytes(session, entry)?;
         let lent = session.lent.entries;
-        grow(session.heap, &mut self.entries, lent)?;
-        let file = self.entries.as_mut_slice();
-        if file.len() < lent {
-            return Err(Fault::NoMemory);
+        if self.entries.len() < lent {
+            self.entries.resize(lent, 0)?;
         }
-        match self.log.append(entry.as_slice(), &mut file[0..lent]) {
-            Ok(i) => Ok(Answer::Number(i)),
-            Err(refusal) => Ok(Answer::Refused(refusal)),
-        }
+        let file = &mut self.entries.as_mut_slice()[0..lent];
+        Ok(Answer::Number(self.log.append(entry.as_slice(), file)?))
     }
 
-    fn head<'a>(&self, session: &Session, words: &[&'a str]) -> Result<Answer, Fault<'a>> {
-        let [n] = words else {
-            return Err(Fault::miscount(1, words));
-        };
+    fn head<'a>(&self, session: &Session, words: &[&'a str]) -> Result<Answer, Failure<'a>> {
+        let [n] = *exactly::<_, 1>(words)?;
         let n = small(n)?;
-        let mut cells = subtrees::<C>(session.heap, session.lent.cells)?;
-        let mut out = vec![in session.heap; 0; session.lent.output]?;
-        let answer = self.log.head(n, cells.as_mut_slice(), out.as_mut_slice());
-        Ok(written(out, answer))
+        record::<C, _>(session, |cells, out| self.log.head(n, cells, out))
     }
 
-    fn prove<'a>(&self, session: &Session, words: &[&'a str]) -> Result<Answer, Fault<'a>> {
-        let [i, n] = words else {
-            return Err(Fault::miscount(2, words));
-        };
+    fn prove<'a>(&self, session: &Session, words: &[&'a str]) -> Result<Answer, Failure<'a>> {
+        let [i, n] = *exactly::<_, 2>(words)?;
         let i = small(i)?;
         let n = small(n)?;
-        let mut spans = vec![in session.heap; Span { from: 0, to: 0 }; session.lent.cells]?;
-        let mut cells = subtrees::<C>(session.heap, session.lent.cells)?;
-        let mut out = vec![in session.heap; 0; session.lent.output]?;
-        let answer = self.log.prove(
-            i,
-            n,
-            spans.as_mut_slice(),
-            cells.as_mut_slice(),
-            out.as_mut_slice(),
-        );
-        Ok(written(out, answer))
+        let mut spans = spans(session)?;
+        record::<C, _>(session, |cells, out| {
+            self.log.prove(i, n, spans.as_mut_slice(), cells, out)
+        })
     }
 
-    fn link<'a>(&self, session: &Session, words: &[&'a str]) -> Result<Answer, Fault<'a>> {
-        let [m, n] = words else {
-            return Err(Fault::miscount(2, words));
-        };
+    fn link<'a>(&self, session: &Session, words: &[&'a str]) -> Result<Answer, Failure<'a>> {
+        let [m, n] = *exactly::<_, 2>(words)?;
         let m = small(m)?;
         let n = small(n)?;
-        let mut spans = vec![in session.heap; Span { from: 0, to: 0 }; session.lent.cells]?;
-        let mut cells = subtrees::<C>(session.heap, session.lent.cells)?;
-        let mut out = vec![in session.heap; 0; session.lent.output]?;
-        let answer = self.log.link(
-            m,
-            n,
-            spans.as_mut_slice(),
-            cells.as_mut_slice(),
-            out.as_mut_slice(),
-        );
-        Ok(written(out, answer))
+        let mut spans = spans(session)?;
+        record::<C, _>(session, |cells, out| {
+            self.log.link(m, n, spans.as_mut_slice(), cells, out)
+        })
     }
 
-    fn show<'a>(&self, session: &Session, words: &[&'a str]) -> Result<Answer, Fault<'a>> {
-        let [what] = words else {
-            return Err(Fault::miscount(1, words));
-        };
-        let shown = match *what {
+    fn show<'a>(&self, session: &Session, words: &[&'a str]) -> Result<Answer, Failure<'a>> {
+        let [what] = *exactly::<_, 1>(words)?;
+        let shown = match what {
             "entries" => Some(self.used_entries()),
             "image" => self.log.store().image(),
             _ => None,
         };
-        match shown {
-            Some(bytes) => Ok(Answer::Bytes(Vec::from_slice(session.heap, bytes)?)),
-            None => Err(Fault::NotShown(what)),
-        }
+        let bytes = shown.ok_or(Fault::NotShown(what))?;
+        Ok(Answer::Bytes(Vec::from_slice(session.heap, bytes)?))
     }
 
     fn used_entries(&self) -> &[u8] {
@@ -216,53 +199,28 @@ impl<C: Compression + Drop, S: Store + Leaves<Item = C::Value> + Imaged + Drop> 
     }
 }
 
-fn none<'a>(words: &[&'a str]) -> Result<(), Fault<'a>> {
-    match words {
-        [] => Ok(()),
-        _ => Err(Fault::miscount(0, words)),
-    }
-}
-
 // A number of 32 bits.
 fn small<'a>(word: &'a str) -> Result<u32, Fault<'a>> {
-    match u32::try_from(number(word)?) {
-        Ok(n) => Ok(n),
-        Err(_) => Err(Fault::BadNumber(word)),
-    }
+    u32::try_from(number(word)?).map_err(|_| Fault::BadNumber(word))
 }
 
-fn subtrees<C: Compression>(heap: Global, n: usize) -> Result<Vec<Subtree<C::Value>>, AllocError> {
-    let mut cells = Vec::with_capacity(heap, n)?;
-    for _ in 0..n {
-        cells.push(Subtree {
-            height: 0,
-            digest: C::Value::default(),
-        })?;
-    }
-    Ok(cells)
+fn spans(session: &Session) -> Result<Vec<Span>, AllocError> {
+    vec![in session.heap; Span { from: 0, to: 0 }; session.lent.cells]
 }
 
-// Makes a file at least so long, by zeros at its end.
-fn grow(heap: Global, file: &mut Vec<u8>, len: usize) -> Result<(), AllocError> {
-    let used = file.len();
-    if used >= len {
-        return Ok(());
-    }
-    let mut longer = vec![in heap; 0; len]?;
-    if used <= longer.len() {
-        longer.as_mut_slice()[0..used].copy_from_slice(file.as_slice());
-    }
-    *file = longer;
-    Ok(())
-}
-
-// The record that a call wrote at the front of an output, or its refusal.
-fn written(mut out: Vec<u8>, answer: Result<usize, Refusal>) -> Answer {
-    match answer {
-        Ok(len) => {
-            out.truncate(len);
-            Answer::Bytes(out)
-        }
-        Err(refusal) => Answer::Refused(refusal),
-    }
+// The record that a call writes at the front of the output that it is lent, beside its cells.
+fn record<'a, C: Compression, F>(session: &Session, call: F) -> Result<Answer, Failure<'a>>
+where
+    F: FnOnce(&mut [Subtree<C::Value>], &mut [u8]) -> Result<usize, Refusal>,
+    requires { F.IsAlwaysCallable call }
+{
+    let empty = Subtree {
+        height: 0,
+        digest: C::Value::default(),
+    };
+    let mut cells = vec![in session.heap; empty; session.lent.cells]?;
+    let mut out = vec![in session.heap; 0; session.lent.output]?;
+    let len = call(cells.as_mut_slice(), out.as_mut_slice())?;
+    out.truncate(len);
+    Ok(Answer::Bytes(out))
 }

@@ -8,27 +8,15 @@ use anyhow::anyhow;
 use cipher::words::Words;
 use hash::compress::{Compression, DaviesMeyer, MatyasMeyerOseas, MiyaguchiPreneel};
 use hash::digest::{LONGEST, hash};
+use hexadecimal::Hex;
 use refusal::Refusal;
 use speck::Speck128;
+use std::env;
 use std::time::Instant;
-use std::{env, fmt};
 
 mod logs;
 
 use logs::time_logs;
-
-// The first bytes of a message, as digits.
-#[derive(Clone, Copy)]
-struct Front<'a>(&'a [u8], usize);
-
-impl<'a> fmt::Display for Front<'a> {
-    fn fmt<W: fmt::Write>(&self, f: &mut fmt::Formatter<W>) -> fmt::Result {
-        for byte in self.0.iter().take(self.1) {
-            write!(f, "{byte:02x}")?;
-        }
-        Ok(())
-    }
-}
 
 // Hashes the message `times` times, and writes each digest over its front, so that no call can be left out.
 fn chain<C: Compression>(c: &C, message: &mut [u8], times: u64) -> Result<(), Refusal> {
@@ -48,12 +36,9 @@ fn time_chain<C: Compression>(
 ) -> anyhow::Result<()> {
     let mut message = vec![in rt.alloc(); 0; length]?;
     let start = Instant::now(rt)?;
-    let done = chain(c, message.as_mut_slice(), times);
+    chain(c, message.as_mut_slice(), times).map_err(|_| anyhow!("the message is too long"))?;
     let took = start.elapsed(rt)?.as_micros();
-    if done.is_err() {
-        return Err(anyhow!("the message is too long"));
-    }
-    let digest = Front(message.as_slice(), C::Value::size());
+    let digest = Hex(&message.as_slice()[0..C::Value::size().min(length)]);
     eprintln!(rt; "{name} {length} {times} {took}")?;
     println!(rt; "{name} {length} {digest}")?;
     Ok(())

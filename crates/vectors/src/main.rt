@@ -8,6 +8,7 @@ use cipher::Cipher;
 use cipher::words::{Block, Words};
 use hash::compress::{Compression, DaviesMeyer, Fold, MatyasMeyerOseas, MiyaguchiPreneel};
 use hash::digest::digest;
+use hexadecimal::Hex;
 use specimens::specimens_hold;
 use speck::Speck128;
 
@@ -66,25 +67,21 @@ fn hashes<C: Compression<Value = Block>>(
 fn compared(rt: HostRuntime, found: Block, expected: &[u8; 16]) -> anyhow::Result<()> {
     let mut bytes = [0u8; 16];
     found.store(&mut bytes, 0);
-    for b in bytes {
-        print!(rt; "{b:02x}")?;
-    }
+    let digits = Hex(&bytes);
     if bytes != *expected {
-        println!(rt; " differs")?;
+        println!(rt; "{digits} differs")?;
         return Err(anyhow!("a block is not the one that is expected"));
     }
-    println!(rt; " ok")?;
+    println!(rt; "{digits} ok")?;
     Ok(())
 }
 
 fn s_box(rt: HostRuntime) -> anyhow::Result<()> {
-    let mut v = 0u8;
-    for expected in data::SBOX {
+    for (v, expected) in (0..=255u8).zip(data::SBOX) {
         if sub(v) != expected {
             println!(rt; "S differs at {v:02x}")?;
             return Err(anyhow!("an entry of S is not the one that is expected"));
         }
-        v = v.wrapping_add(1);
     }
     println!(rt; "S: 256 entries ok")?;
     Ok(())

@@ -1,9 +1,9 @@
 use Rattle.std.proofs.Common.{subst, rules}
 use Rattle.std.specs.Fmt.{HasWritten}
 use Rattle.std.proofs.lemmas.List.{take_all}
-use Rattle.relog.specs.Hex.{hex}
-use Rattle.relog.proofs.Shown.{none_yet, byte_more}
-use Rattle.relog.proofs.hex.HexDisplay.fmt.Goals as goal
+use Rattle.hex.specs.Hex.{encode_lower}
+use Rattle.hexadecimal.proofs.Shown.{none_yet, byte_more}
+use Rattle.hexadecimal.proofs.HexDisplay.fmt.Goals as goal
 
 pub loop-byte-init : goal.loop-byte-init
 loop-byte-init g c = none_yet g.W.Write.write_str_gives c.args.f.now
@@ -20,4 +20,4 @@ loop-byte-preserved g c =
 pub returns-clause-writes : goal.returns-clause-writes
 returns-clause-writes g c plain ok =
     let whole = take_all c.loop-byte.byte-index c.args.self.now.0.now c.loop-byte-test.false in
-    subst (λ l. HasWritten g.W.Write.write_str_gives c.args.f.now (hex l) c.loop-byte.f) whole (c.loop-byte.invariant plain)
+    subst (λ l. HasWritten g.W.Write.write_str_gives c.args.f.now (encode_lower l) c.loop-byte.f) whole (c.loop-byte.invariant plain)

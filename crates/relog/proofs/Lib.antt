@@ -1,5 +1,0 @@
-mod Digits
-mod Naming
-mod Runs
-mod Shown
-mod Whole
