@@ -40,10 +40,7 @@ pub fn proven<C: Compression>(
         proof.path,
         spans,
     );
-    must(
-        root == Some(head.root()),
-        Refusal::WrongRoot(site),
-    )
+    must(root == Some(head.root()), Refusal::WrongRoot(site))
 }
 
 // The link has to rebuild the roots of both heads.

@@ -43,11 +43,8 @@ pub struct Lent {
 impl Lent {
     pub fn new() -> Lent {
         Lent {
-            spans: [Span { from: 0, to: 0 }; CELLS],
-            cells: [Subtree {
-                height: 0,
-                digest: ZERO,
-            }; CELLS],
+            spans: [Span::default(); CELLS],
+            cells: [Subtree::default(); CELLS],
             seen: [0; SEEN],
         }
     }

@@ -28,10 +28,7 @@ fn tell<T: Drop>(rt: &HostRuntime, what: &str, answer: Result<T, Refusal>) -> an
     }
 }
 
-// What a refusal returns, as text.
 fn tell_refusal(rt: &HostRuntime, what: &str, refusal: Refusal) -> anyhow::Result<()> {
-    let r = refusal.returned();
-    let (number, input, place) = (r.number, r.input, r.place);
-    println!(rt; "{what}: refused {number} input {input} place {place}")?;
+    println!(rt; "{what}: {}", refusal.returned())?;
     Ok(())
 }

@@ -10,7 +10,7 @@ ghost use Rattle.hash.specs.Hash.{chain, from_zeros, hash_of, hash_answer, start
 use crate::compress::Compression;
 use crate::padding::padded_blocks;
 use cipher::words::Block;
-use refusal::Refusal;
+use refusal::{Refusal, must};
 
 // A message has at most so many bytes.
 pub const LONGEST: usize = 1_048_576;
@@ -53,8 +53,6 @@ pub fn value_before<C: Compression>(c: &C, message: &[u8], k: usize) -> C::Value
 pub fn hash<C: Compression>(c: &C, message: &[u8]) -> Result<C::Value, Refusal>
     ensures { result_map_both C.Value.Words.bytes (λ (e : TheRefusal). e) result ≡ hash_answer (from_zeros C.Value.Words.width C.Compression.f) message.now }
 {
-    if message.len() > LONGEST {
-        return Err(Refusal::TooLong { input: 1 });
-    }
+    must(message.len() <= LONGEST, Refusal::TooLong { input: 1 })?;
     Ok(digest(c, message))
 }

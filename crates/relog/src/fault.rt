@@ -74,12 +74,7 @@ impl<'a> fmt::Display for Failure<'a> {
     fn fmt<W: fmt::Write>(&self, f: &mut fmt::Formatter<W>) -> fmt::Result {
         match self {
             Failure::Fault(fault) => write!(f, "error: {fault}"),
-            Failure::Refused(refusal) => {
-                // What a refusal returns, as text.
-                let r = refusal.returned();
-                let (number, input, place) = (r.number, r.input, r.place);
-                write!(f, "refused {number} input {input} place {place}")
-            }
+            Failure::Refused(refusal) => write!(f, "{}", refusal.returned()),
         }
     }
 }

@@ -205,7 +205,7 @@ fn small<'a>(word: &'a str) -> Result<u32, Fault<'a>> {
 }
 
 fn spans(session: &Session) -> Result<Vec<Span>, AllocError> {
-    vec![in session.heap; Span { from: 0, to: 0 }; session.lent.cells]
+    vec![in session.heap; Span::default(); session.lent.cells]
 }
 
 // The record that a call writes at the front of the output that it is lent, beside its cells.
@@ -214,11 +214,7 @@ where
     F: FnOnce(&mut [Subtree<C::Value>], &mut [u8]) -> Result<usize, Refusal>,
     requires { F.IsAlwaysCallable call }
 {
-    let empty = Subtree {
-        height: 0,
-        digest: C::Value::default(),
-    };
-    let mut cells = vec![in session.heap; empty; session.lent.cells]?;
+    let mut cells = vec![in session.heap; Subtree::default(); session.lent.cells]?;
     let mut out = vec![in session.heap; 0; session.lent.output]?;
     let len = call(cells.as_mut_slice(), out.as_mut_slice())?;
     out.truncate(len);

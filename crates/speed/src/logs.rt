@@ -100,11 +100,8 @@ struct Lent {
 impl Lent {
     fn new() -> Lent {
         Lent {
-            spans: [Span { from: 0, to: 0 }; CELLS],
-            cells: [Subtree {
-                height: 0,
-                digest: ZERO,
-            }; CELLS],
+            spans: [Span::default(); CELLS],
+            cells: [Subtree::default(); CELLS],
             seen: [0; SEEN],
         }
     }

@@ -10,7 +10,7 @@ ghost use Rattle.tree.specs.Entries.{leaf_answer};
 use cipher::words::Words;
 use hash::compress::Compression;
 use hash::digest::digest;
-use refusal::Refusal;
+use refusal::{Refusal, must};
 
 // An entry has at most so many bytes.
 pub const LONGEST_ENTRY: usize = 4096;
@@ -47,9 +47,7 @@ pub fn node_message<D: Words>(left: D, right: D, into: &mut [u8])
 pub fn leaf<C: Compression>(c: &C, input: u8, entry: &[u8]) -> Result<C::Value, Refusal>
     ensures { result_map_both C.Value.Words.bytes (λ (e : TheRefusal). e) result ≡ leaf_answer (from_zeros C.Value.Words.width C.Compression.f) input entry.now }
 {
-    if entry.len() > LONGEST_ENTRY {
-        return Err(Refusal::TooLong { input });
-    }
+    must(entry.len() <= LONGEST_ENTRY, Refusal::TooLong { input })?;
     if entry.len() < 64 {
         Ok(leaf_digest(c, entry, &mut [0; 64]))
     } else {
