@@ -74,7 +74,7 @@ impl<'a, D: Words> Imaged for Table<'a, D> {
 
 impl<'a, D: Words> Imaged for Image<'a, D> {
     fn image(&self) -> Option<&[u8]>
-        ensures { option_map (λ x. x.now) result ≡ Some (image_used D.Words.width self.now) }
+        ensures { option_map (λ x. x.now) result ≡ Some (image_used self.now) }
     {
         Some(self.used())
     }
