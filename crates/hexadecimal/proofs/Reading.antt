@@ -1,11 +1,12 @@
 -- What text is the digits of some bytes. Assumes nothing.
-use Rattle.std.proofs.Common.{◌≡◌, ℕ, ◌+◌, ◌*◌, ◌/◌, ◌%◌, ◌<◌, ◌==◌, true, false, List, [], ◌∷◌, map, length, slice_index, Option, Some, None, Result, Ok, Err, inl, inr, refl, sym, ap, ◌∙◌, arith}
-use Rattle.std.specs.Result.{result_unwrap_or}
+use Rattle.std.proofs.Common.{◌≡◌, ◌≢◌, ℕ, Bool, ◌+◌, ◌*◌, ◌/◌, ◌%◌, ◌<◌, ◌==◌, true, false, List, [], ◌∷◌, map, length, slice_index, Option, Some, None, Result, Ok, Err, inl, inr, refl, sym, ap, subst, ◌∙◌, arith, eq-eqb, MatchOption, MatchResult}
+use Rattle.std.specs.Result.{result_unwrap_or, is_ok}
+use Rattle.std.specs.Bool.{then_some}
 use Rattle.std.specs.Char.{digit_char, to_ascii_lowercase}
 use Rattle.std.proofs.lemmas.List.{get_or-map, length-map}
 use Rattle.std.proofs.lemmas.Bool.{agree_below_at, eqb-true}
 use Rattle.std.proofs.lemmas.Bool.Decides.{nat_tests}
-use Rattle.hex.specs.Hex.{IsBytes, decode_of, decode_pairs, digit_or_error, encode_lower, encode_with, hex_digit_value, is_hex_digit, lower_digits, ◌>>=◌}
+use Rattle.hex.specs.Hex.{IsBytes, decode_of, decode_sized, decode_pairs, digit_or_error, encode_lower, encode_with, hex_digit_value, is_hex_digit, lower_digits, ◌>>=◌}
 use Rattle.hex.specs.declared.error.FromHexError.{FromHexError}
 use Rattle.hex.proofs.HexLemmas.{decode_of-encode_lower, decode_of-err, decode_of-even, decode_of-ok}
 
@@ -43,14 +44,14 @@ spelled_pairs i (a ∷ []) bytes h = cc h
 spelled_pairs i (a ∷ b ∷ rest) bytes h = pair_cases a b i rest (hex_digit_value a) (hex_digit_value b) (decode_pairs (i + 2) rest) bytes refl refl (spelled_pairs (i + 2) rest) h
 
 -- what is read from a text is spelled by it
-pub spelled : (text bytes : List ℕ) → decode_of text ≡ Ok bytes → encode_lower bytes ≡ map to_ascii_lowercase text
+spelled : (text bytes : List ℕ) → decode_of text ≡ Ok bytes → encode_lower bytes ≡ map to_ascii_lowercase text
 spelled text bytes h = spelled_pairs 0 text bytes (sym (decode_of-even text (decode_of-ok text bytes h).0) ∙ h)
 
 not_lower : (c : ℕ) → is_hex_digit c ≡ false → is_hex_digit (to_ascii_lowercase c) ≡ true → ⊥
 not_lower c h l = grind (arith, nat_tests)
 
 -- what is not read spells no bytes
-pub spells_none : (text bs : List ℕ) (e : FromHexError) → decode_of text ≡ Err e → IsBytes bs → encode_lower bs ≡ map to_ascii_lowercase text → ⊥
+spells_none : (text bs : List ℕ) (e : FromHexError) → decode_of text ≡ Err e → IsBytes bs → encode_lower bs ≡ map to_ascii_lowercase text → ⊥
 spells_none text bs e h fits is =
     let digits = decode_of-ok (encode_lower bs) bs (decode_of-encode_lower bs fits) in
     let long = ap length is ∙ length-map text to_ascii_lowercase in
@@ -61,3 +62,27 @@ spells_none text bs e h fits is =
           let lower = ap (λ t. is_hex_digit (slice_index t bad.0)) is ∙ ap is_hex_digit (get_or-map to_ascii_lowercase text bad.0 0 0 bad.2) in
           not_lower (slice_index text bad.0) bad.3 (sym lower ∙ here)
     ]
+
+-- room for half as many bytes as there are digits is the room that decoding wants
+sized : (text : List ℕ) (n : ℕ) → n ≡ length text / 2 → decode_sized text n ≡ decode_of text
+sized text n e = go (length text % 2 == 1) refl
+  where
+    inner : (length text / 2 == n) ≡ true
+    inner = eq-eqb (length text / 2) n (sym e)
+
+    go : (t : Bool) → (length text % 2 == 1) ≡ t → decode_sized text n ≡ decode_of text
+    go true h = rw h refl
+    go false h = rw (h, inner) refl
+
+-- what is read into such room: v, whose bytes these are, if any are spelled
+pub read : {V : Type 0} (items : V → List ℕ) (text out : List ℕ) (n : ℕ) (r : Result (Unit {0}) FromHexError) (v : V) (o : Option V) → n ≡ length text / 2 →
+    MatchResult (decode_sized text n) (λ bytes. (r ≡ Ok tt) × (out ≡ bytes)) (λ e. r ≡ Err e) → items v ≡ out → o ≡ then_some (is_ok r) v →
+    MatchOption o ((bs : List ℕ) → IsBytes bs → encode_lower bs ≢ map to_ascii_lowercase text) (λ w. encode_lower (items w) ≡ map to_ascii_lowercase text)
+read {V} items text out n r v o long m i e = go (decode_of text) refl (subst (λ d. MatchResult d (λ bytes. (r ≡ Ok tt) × (out ≡ bytes)) (λ x. r ≡ Err x)) (sized text n long) m)
+  where
+    Found : Option V → Type 0
+    Found w = MatchOption w ((bs : List ℕ) → IsBytes bs → encode_lower bs ≢ map to_ascii_lowercase text) (λ w. encode_lower (items w) ≡ map to_ascii_lowercase text)
+
+    go : (d : Result (List ℕ) FromHexError) → decode_of text ≡ d → MatchResult d (λ bytes. (r ≡ Ok tt) × (out ≡ bytes)) (λ x. r ≡ Err x) → Found o
+    go (Ok bytes) h k = subst Found (sym (e ∙ ap (λ z. then_some (is_ok z) v) k.0)) (ap encode_lower (i ∙ k.1) ∙ spelled text bytes h)
+    go (Err x) h k = subst Found (sym (e ∙ ap (λ z. then_some (is_ok z) v) k)) (λ bs fits is. spells_none text bs x h fits is)

@@ -5,7 +5,6 @@ ghost use Rattle.std.specs.Prelude.{◌≡◌, ◌≢◌, ℕ, ◌<◌, List, ma
 ghost use Rattle.std.specs.Char.{to_ascii_lowercase};
 ghost use Rattle.hex.specs.Hex.{IsBytes, encode_lower, lower_digits};
 
-use hex::FromHexError;
 use std::alloc::{AllocError, Global};
 use std::fmt;
 
@@ -13,13 +12,9 @@ use std::fmt;
 pub fn decode(heap: Global, text: &str) -> Result<Option<Vec<u8>>, AllocError>
     ensures { IfOk result (λ o. MatchOption o ((bs : List ℕ) → IsBytes bs → encode_lower bs ≢ map to_ascii_lowercase text.now) (λ v. encode_lower v.items ≡ map to_ascii_lowercase text.now)) }
 {
-    match hex::decode(heap, text) {
-        Ok(bytes) => Ok(Some(bytes)),
-        Err(e) => match e {
-            FromHexError::OutOfMemory => Err(AllocError),
-            _ => Ok(None),
-        },
-    }
+    let mut bytes = vec![in heap; 0; text.len() / 2]?;
+    let read = hex::decode_to_slice(text, bytes.as_mut_slice());
+    Ok(read.is_ok().then_some(bytes))
 }
 
 // Bytes that are shown by their digits.
