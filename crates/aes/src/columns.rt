@@ -40,6 +40,7 @@ fn mixed(a: u32, b: u32, c: u32, d: u32) -> u32
 }
 
 impl Columns {
+    // Halves of words, by arithmetic: by way of the block's bytes there would be a line more for each column.
     pub(crate) fn new(block: Block) -> Columns
         ensures { state_of result ≡ block_bytes block }
     {

@@ -1,4 +1,5 @@
-// Whether a proof or a link that was read is accepted; `site` is its own, for a refusal.
+// Whether a proof or a link that was read is accepted; `site` is its own, for a refusal. A proof is held against one root and a link
+// against two, so that one function for both would be no shorter.
 ghost use Rattle.std.specs.Prelude.{◌≡◌, ℕ, ◌&&◌, List, length, ◌==◌};
 ghost use Rattle.hash.specs.Hash.{from_zeros};
 ghost use Rattle.paths.specs.Rebuilds.{path_root, link_roots};

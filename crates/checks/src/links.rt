@@ -1,4 +1,4 @@
-// Check of a link.
+// Check of a link. It reads two heads where the check of a proof reads an entry and one head, so each is written out.
 ghost use Rattle.std.specs.Prelude.{◌≡◌, ℕ, List, length};
 ghost use Rattle.hash.specs.Hash.{from_zeros};
 ghost use Rattle.checks.specs.Checks.{check_link_answer};

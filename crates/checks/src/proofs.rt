@@ -1,4 +1,4 @@
-// Check of a proof.
+// Check of a proof. It reads an entry and one head where the check of a link reads two heads, so each is written out.
 ghost use Rattle.std.specs.Prelude.{◌≡◌, ℕ, List, length};
 ghost use Rattle.hash.specs.Hash.{from_zeros};
 ghost use Rattle.checks.specs.Checks.{check_proof_answer};

@@ -96,7 +96,8 @@ fn same_at(x: &[u8], y: &[u8], from: usize, k: usize) -> bool
 }
 
 // The last block at which the inputs of two messages of one length differ. One pass forward tells from which block on the
-// chaining values are the same; the way back then compares blocks alone.
+// chaining values are the same; the way back then compares blocks alone. It is a loop that breaks with the position, by a rule of
+// this repository for where two messages part.
 fn parts_at<C: Compression>(c: &C, x: &[u8], y: &[u8]) -> Option<usize>
     requires { length x.now ≡ length y.now }
     ensures { MatchOption result (inputs_apart (from_zeros C.Value.Words.width C.Compression.f) x.now y.now ≡ None) (λ k. inputs_apart (from_zeros C.Value.Words.width C.Compression.f) x.now y.now ≡ both (slice_get (inputs_of (from_zeros C.Value.Words.width C.Compression.f) x.now) k) (slice_get (inputs_of (from_zeros C.Value.Words.width C.Compression.f) y.now) k)) }

@@ -1,4 +1,5 @@
-// Two papers of one kind that were accepted.
+// Two papers of one kind that were accepted. Proofs and links are not one type with a parameter: a proof stands under a head with
+// its entry, a link between two heads, and what is read and compared of them differs at each step.
 use record::records::{Link, Proof};
 
 #[derive(Clone, Copy)]

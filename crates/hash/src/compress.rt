@@ -7,7 +7,8 @@ ghost use Rattle.cipher.proofs.Littles.{length_xors};
 use cipher::Cipher;
 use cipher::words::{Block, Words};
 
-// Its whole meaning is the output that it gives for each chaining value and block.
+// Its whole meaning is the output that it gives for each chaining value and block. Contracts write the hash over it out as
+// `from_zeros width f`: a member for that would be stated again by each `impl`, and tied to `f` again in each proof.
 pub trait Compression {
     type Value: Words;
 

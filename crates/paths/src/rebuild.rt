@@ -31,7 +31,7 @@ fn join<C: Compression>(c: &C, side: Side, digest: C::Value, beside: C::Value) -
     }
 }
 
-// The same for the old root, into which only what stands at the low side enters.
+// The same for the old root, into which only what stands at the low side enters. One function for both would take a flag.
 fn join_old<C: Compression>(c: &C, side: Side, digest: C::Value, beside: C::Value) -> C::Value
     ensures { C.Value.Words.bytes result ≡ joined_old (from_zeros C.Value.Words.width C.Compression.f) side (C.Value.Words.bytes digest) (C.Value.Words.bytes beside) }
 {

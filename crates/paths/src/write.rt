@@ -31,7 +31,8 @@ fn numbers(way: Way) -> (u32, u32)
     }
 }
 
-// Writes the payload of the path or the link of a way at the front of the output, and says how long it is.
+// Writes the payload of the path or the link of a way at the front of the output, and says how long it is. The two kinds of cells
+// are lent apart, since other calls are lent one kind alone.
 pub fn way_into<C: Compression, L: Leaves<Item = C::Value>>(
     c: &C,
     leaves: &L,

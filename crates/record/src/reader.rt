@@ -19,7 +19,8 @@ pub struct Reader<'a> {
     ghost within: { place ≤ length input.now },
 }
 
-// Stands over a reader's place while a record is read, and puts it back unless the record was committed.
+// Stands over a reader's place while a record is read, and puts it back unless the record was committed. That is a flag, since it
+// comes true after the guard was made, and every way out has to see it.
 struct Guard<'p> {
     place: &'p mut usize,
     first: usize,

@@ -1,4 +1,5 @@
-// Writing records: each is written at a place if there is room for all of it, and otherwise nothing is.
+// Writing records: each is written at a place if there is room for all of it, and otherwise nothing is. They are functions of their
+// own, since each kind has other parts, and no code writes a record of any kind.
 ghost use Rattle.std.specs.Prelude.{◌≡◌, ◌+◌, ◌*◌, ◌<◌, ◌≤◌, ◌++◌, length, nat_le};
 ghost use Rattle.cipher.specs.Bytes.{little, stored};
 ghost use Rattle.tree.specs.Entries.{longest_entry};

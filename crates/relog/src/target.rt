@@ -20,6 +20,7 @@ use store::table::Table;
 use tree::leaves::Leaves;
 use tree::spans::Span;
 
+// The commands that need a log. A script names them, so they are an enum and a match, and no closures that a caller would pass.
 #[derive(Clone, Copy)]
 pub enum LogCommand {
     Count,

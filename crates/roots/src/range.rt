@@ -73,10 +73,7 @@ pub fn range_root<C: Compression, L: Leaves<Item = C::Value>>(
     }
     let mut stack = Stack::new(cells);
     for i in a..b {
-        let leaf = leaves.leaf(i)?;
-        let Ok(()) = settle(c, &mut stack, leaf) else {
-            return None;
-        };
+        settle(c, &mut stack, leaves.leaf(i)?).ok()?;
     }
     let mut root = stack.pop()?.digest;
     while let Some(below) = stack.pop() {

@@ -15,7 +15,7 @@ use refusal::{Refusal, must};
 // An entry has at most so many bytes.
 pub const LONGEST_ENTRY: usize = 4096;
 
-// The message of a node has at most so many bytes.
+// The message of a node has at most so many bytes. It is put together in a buffer of that length, since no library here allocates.
 pub const LONGEST_NODE: usize = 65;
 
 // The digest of the node over two digests.
@@ -24,9 +24,7 @@ pub fn node<C: Compression>(c: &C, left: C::Value, right: C::Value) -> C::Value
 {
     let width = C::Value::size();
     let mut message = [0; LONGEST_NODE];
-    message[0] = 1;
-    left.store(&mut message, 1);
-    right.store(&mut message, 1 + width);
+    node_message(left, right, &mut message);
     digest(c, &message[0..1 + width + width])
 }
 

@@ -1,4 +1,4 @@
-use Rattle.std.proofs.Common.{◌≡◌, ℕ, ◌-◌, ◌<◌, ◌≤◌, List, length, take, drop, Some, sym, ap, ◌∙◌, subst, arith, length-drop}
+use Rattle.std.proofs.Common.{◌≡◌, ℕ, ◌-◌, ◌<◌, ◌≤◌, List, length, take, drop, Some, Result, Ok, Err, MatchResult, sym, ap, ◌∙◌, subst, arith, length-drop}
 use borrow.Author.Tests.{false-ltb}
 use Rattle.std.proofs.lemmas.List.{length-take-le}
 use Rattle.stack.specs.Held.{held}
@@ -9,6 +9,11 @@ use Rattle.roots.specs.Rows.{Rows}
 use Rattle.roots.proofs.Passing.{started, folded, ended, no_row}
 use Rattle.roots.proofs.Ranges.{is_leaf, no_leaf, range_more, ranged_root, root_is_met}
 use Rattle.roots.proofs.range.range_root.Goals as goal
+
+-- a result that is never an error
+took : {P E : Type 0} (r : Result (Unit {0}) E) → MatchResult r (λ _. P) (λ _. ⊥) → P
+took (Ok u) p = p
+took (Err e) n = absurd n
 
 pub returns-in_err-leaf : goal.returns-in_err-leaf
 returns-in_err-leaf g c =
@@ -33,13 +38,13 @@ loop-i-preserved g c =
     let a = c.args.a in
     let i = c.loop-i.i in
     let n = c.count.ensures.value in
-    let z = c.in-Ok.ensures.size in
+    let z = c.settle.ensures.size in
     let m = c.loop-i.invariant.0 in
     let h : i < length xs = omega arith in (
       omega arith,
       subst (λ (ys : List (List ℕ)). Rows node b 1 (held c.settle.new.stack) ys)
-          (sym (range_more xs a i (b c.in_ok-leaf.leaf) (omega arith) h (is_leaf b xs i c.in_ok-leaf.leaf h c.in_ok-leaf.ensures)))
-          (c.in-Ok.ensures.rows (take (i - a) (drop a xs)) c.loop-i.invariant.1),
+          (sym (range_more xs a i (b c.in_ok-leaf.field-0) (omega arith) h (is_leaf b xs i c.in_ok-leaf.field-0 h c.in_ok-leaf.ensures)))
+          (took c.settle.result c.settle.ensures.rows (take (i - a) (drop a xs)) c.loop-i.invariant.1),
     )
 
 pub returns-in_err-root : goal.returns-in_err-root
@@ -85,7 +90,7 @@ returns g c =
     let xs = g.L.Leaves.items c.args.leaves.now in
     let s = c.loop-below.stack in
     let n = c.count.ensures.value in
-    let t = false-ltb 0 s.len c.in_default-pop.ensures.some in
+    let t = false-ltb 0 s.len c.in_default.ensures.some in
     let e : s.len ≡ 0 = omega arith in
     let low : c.args.a < c.args.b = omega arith in
     let top : c.args.b ≤ length xs = omega arith in
