@@ -127,7 +127,7 @@ fn read_one<'a, D: Words, T: Single<'a, D>>(number: u8, bytes: &'a [u8]) -> Resu
 pub fn read_head<D: Words>(number: u8, bytes: &[u8]) -> Result<Head<D>, Refusal>
     ensures { result_map_both (head_of D.Words.bytes) (λ (e : TheRefusal). e) result ≡ read_one D.Words.width number head_in bytes.now }
 {
-    read_one(number, bytes)
+    read_one::<D, Head<D>>(number, bytes)
 }
 
 pub fn read_proof<'a, D: Words>(number: u8, bytes: &'a [u8]) -> Result<Proof<'a>, Refusal>
@@ -147,5 +147,5 @@ pub fn read_link<'a, D: Words>(number: u8, bytes: &'a [u8]) -> Result<Link<'a>, 
 pub fn read_collision<D: Words>(number: u8, bytes: &[u8]) -> Result<Collision<D>, Refusal>
     ensures { result_map_both (collision_of D.Words.bytes) (λ (e : TheRefusal). e) result ≡ read_one D.Words.width number collision_in bytes.now }
 {
-    read_one(number, bytes)
+    read_one::<D, Collision<D>>(number, bytes)
 }
