@@ -8,7 +8,8 @@ use Rattle.std.proofs.lemmas.Bool.{agree_below_at, eqb-true}
 use Rattle.std.proofs.lemmas.Bool.Decides.{nat_tests}
 use Rattle.hex.specs.Hex.{IsBytes, decode_of, decode_sized, decode_pairs, digit_or_error, encode_lower, encode_with, hex_digit_value, is_hex_digit, lower_digits, ◌>>=◌}
 use Rattle.hex.specs.declared.error.FromHexError.{FromHexError}
-use Rattle.hex.proofs.HexLemmas.{decode_of-encode_lower, decode_of-err, decode_of-even, decode_of-ok}
+use Rattle.hex.specs.declared.error.FromHexError.TheVariants.{OddLength}
+use Rattle.hex.proofs.HexLemmas.{decode_of-encode_lower, decode_of-err, decode_of-even, decode_of-odd, decode_of-ok}
 
 -- a digit of the table is that of its value
 lower_digit : (v : ℕ) → v < 16 → slice_index lower_digits v ≡ digit_char v
@@ -62,6 +63,10 @@ spells_none text bs e h fits is =
           let lower = ap (λ t. is_hex_digit (slice_index t bad.0)) is ∙ ap is_hex_digit (get_or-map to_ascii_lowercase text bad.0 0 0 bad.2) in
           not_lower (slice_index text bad.0) bad.3 (sym lower ∙ here)
     ]
+
+-- text of an odd length spells no bytes
+pub odd_spells_none : (text bs : List ℕ) → length text % 2 ≡ 1 → IsBytes bs → encode_lower bs ≡ map to_ascii_lowercase text → ⊥
+odd_spells_none text bs odd = spells_none text bs OddLength (decode_of-odd text odd)
 
 -- room for half as many bytes as there are digits is the room that decoding wants
 sized : (text : List ℕ) (n : ℕ) → n ≡ length text / 2 → decode_sized text n ≡ decode_of text

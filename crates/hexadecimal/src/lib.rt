@@ -8,10 +8,14 @@ ghost use Rattle.hex.specs.Hex.{IsBytes, encode_lower, lower_digits};
 use std::alloc::{AllocError, Global};
 use std::fmt;
 
-// The bytes whose digits the text is, whatever the case of its letters, or `None` where there are none.
+// The bytes whose digits the text is, whatever the case of its letters, or `None` where there are none. An odd number of digits is
+// found before any memory is asked for.
 pub fn decode(heap: Global, text: &str) -> Result<Option<Vec<u8>>, AllocError>
     ensures { IfOk result (λ o. MatchOption o ((bs : List ℕ) → IsBytes bs → encode_lower bs ≢ map to_ascii_lowercase text.now) (λ v. encode_lower v.items ≡ map to_ascii_lowercase text.now)) }
 {
+    if text.len() % 2 == 1 {
+        return Ok(None);
+    }
     let mut bytes = vec![in heap; 0; text.len() / 2]?;
     let read = hex::decode_to_slice(text, bytes.as_mut_slice());
     Ok(read.is_ok().then_some(bytes))
