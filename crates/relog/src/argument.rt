@@ -8,7 +8,6 @@ use crate::fault::Fault;
 use crate::kept::is_name;
 use crate::session::Session;
 use hexadecimal::decode;
-use std::alloc::Global;
 
 // How many bytes a command's arguments may have.
 pub const LIMIT: usize = 16777216;
@@ -66,14 +65,18 @@ pub fn exactly<'w, 'a, T, const N: usize>(words: &'w [T]) -> Result<&'w [T; N], 
     })
 }
 
-// Adds the bytes `times` times, if that does not make too many.
-fn repeat<'a>(heap: Global, all: &mut Vec<u8>, bytes: &[u8], times: usize) -> Result<(), Fault<'a>>
+// Adds the bytes `times` times, if that does not make too many. They are copied where they stay: the library's `repeat` makes a second
+// copy, byte by byte.
+fn repeat<'a>(all: &mut Vec<u8>, bytes: &[u8], times: usize) -> Result<(), Fault<'a>>
     ensures items { OnOk result (all.new.items ≡ all.old.items ++ times_over times bytes.now) }
     ensures few { OnOk result (vec_len all.new ≤ most_bytes) }
 {
     match bytes.len().checked_mul(times) {
         Some(more) if more <= LIMIT && all.len() <= LIMIT - more => {
-            all.extend_from_slice(bytes.repeat(heap, times)?.as_slice())?;
+            all.reserve(more)?;
+            for _ in 0..times {
+                all.extend_from_slice(bytes)?;
+            }
             Ok(())
         }
         _ => Err(Fault::TooManyBytes),
@@ -89,11 +92,11 @@ fn add<'a>(all: &mut Vec<u8>, session: &Session, word: &'a str) -> Result<(), Fa
         Argument::Empty => Ok(()),
         Argument::Kept(name) => {
             let bytes = session.kept.get(name).ok_or(Fault::NotKept(name))?;
-            repeat(session.heap, all, bytes, 1)
+            repeat(all, bytes, 1)
         }
         Argument::Hexadecimal { digits, times } => {
             let bytes = decode(session.heap, digits)?.ok_or(Fault::BadHexadecimal(word))?;
-            repeat(session.heap, all, bytes.as_slice(), times)
+            repeat(all, bytes.as_slice(), times)
         }
     }
 }

@@ -151,6 +151,7 @@ impl<C: Compression + Drop, S: Store + Leaves<Item = C::Value> + Imaged + Drop> 
         let entry = word_bytes(session, entry)?;
         let lent = session.lent.entries;
         if self.entries.len() < lent {
+            self.entries.reserve_exact(lent - self.entries.len())?;
             self.entries.resize(lent, 0)?;
         }
         let file = &mut self.entries.as_mut_slice()[0..lent];
