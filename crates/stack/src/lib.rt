@@ -5,7 +5,7 @@ ghost use Rattle.std.specs.Prelude.{◌≡◌, ℕ, ◌≤◌, length};
 
 mod top;
 
-// The cells are lent, since no library here allocates: so their number in use stands beside them.
+// The cells are lent, since no library of the log allocates: so their number in use stands beside them.
 #[derive(Drop)]
 pub struct Stack<'a, T> {
     cells: &'a mut [T],

@@ -40,7 +40,8 @@ impl<'a, T: Copy> Stack<'a, T> {
 
 // The values from the top down, each taken off.
 impl<T: Copy> Iterator for Stack<'_, T> {
-    ghost use Rattle.std.specs.Iterator.{YieldsFirst, item_count};
+    ghost use Rattle.std.specs.Prelude.{⊤};
+    ghost use Rattle.std.specs.Iterator.{MakesProgress, YieldsFirst, item_count};
     ghost use Rattle.stack.specs.Held.{popped};
 
     type Item = T;
@@ -49,7 +50,13 @@ impl<T: Copy> Iterator for Stack<'_, T> {
 
     ghost remaining = { item_count popped };
 
-    fn next(&mut self) -> Option<T> {
+    // It also promises of the cells what `pop` does.
+    fn next(&mut self) -> Option<T>
+        ensures steps { YieldsFirst popped self.old result self.new }
+        ensures goes { MakesProgress (λ _. ⊤) (item_count popped) self.old result self.new }
+        ensures places { (self.new.len ≡ self.old.len - 1) × (self.new.cells.now ≡ self.old.cells.now) }
+        ensures size { room self.new ≡ room self.old }
+    {
         self.pop()
     }
 }

@@ -8,8 +8,8 @@ use std::marker::PhantomData;
 
 mod calls;
 
-// The digests are in the first `count` leaf records, which stand one after the other. The bytes are lent, since no library here
-// allocates: so the count stands beside them.
+// The digests are in the first `count` leaf records, which stand one after the other. The bytes are lent, since no library of the
+// log allocates: so the count stands beside them.
 #[derive(Drop)]
 pub struct Image<'a, D: Words> {
     bytes: &'a mut [u8],

@@ -15,7 +15,7 @@ use refusal::{Refusal, must};
 // An entry has at most so many bytes.
 pub const LONGEST_ENTRY: usize = 4096;
 
-// The message of a node has at most so many bytes. It is put together in a buffer of that length, since no library here allocates.
+// The message of a node has at most so many bytes. It is put together in a buffer of that length, since no library of the log allocates.
 pub const LONGEST_NODE: usize = 65;
 
 // The digest of the node over two digests.
