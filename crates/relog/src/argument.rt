@@ -1,5 +1,5 @@
 // The arguments of commands.
-ghost use Rattle.std.specs.Prelude.{◌≡◌, ◌≢◌, ◌≤◌, ◌++◌, length, IfOk, vec_len, MatchResult, OnOk};
+ghost use Rattle.std.specs.Prelude.{◌≡◌, ◌≢◌, ◌≤◌, ◌+◌, ◌*◌, [], ◌∷◌, ◌++◌, length, IfOk, vec_len, MatchResult, OnOk};
 ghost use Rattle.std.specs.Str.Parse.{digits_value};
 ghost use Rattle.std.specs.List.{repeat as times_over};
 ghost use Rattle.relog.specs.Arguments.{Number, most_bytes};
@@ -8,6 +8,7 @@ use crate::fault::Fault;
 use crate::kept::is_name;
 use crate::session::Session;
 use hexadecimal::decode;
+use std::alloc::AllocError;
 
 // How many bytes a command's arguments may have.
 pub const LIMIT: usize = 16777216;
@@ -65,22 +66,44 @@ pub fn exactly<'w, 'a, T, const N: usize>(words: &'w [T]) -> Result<&'w [T; N], 
     })
 }
 
-// Adds the bytes `times` times, if that does not make too many. They are copied where they stay: the library's `repeat` makes a second
-// copy, byte by byte.
+// Adds the bytes `times` times, if that does not make too many. They go straight to the end: the library's `repeat` first makes a copy
+// of its own, byte by byte.
 fn repeat<'a>(all: &mut Vec<u8>, bytes: &[u8], times: usize) -> Result<(), Fault<'a>>
     ensures items { OnOk result (all.new.items ≡ all.old.items ++ times_over times bytes.now) }
     ensures few { OnOk result (vec_len all.new ≤ most_bytes) }
 {
     match bytes.len().checked_mul(times) {
         Some(more) if more <= LIMIT && all.len() <= LIMIT - more => {
-            all.reserve(more)?;
-            for _ in 0..times {
-                all.extend_from_slice(bytes)?;
+            match bytes {
+                [byte] => add_byte(all, *byte, times)?,
+                _ => add_bytes(all, bytes, times)?,
             }
             Ok(())
         }
         _ => Err(Fault::TooManyBytes),
     }
+}
+
+// Adds a byte so many times. A push costs less than a slice of one byte.
+fn add_byte(all: &mut Vec<u8>, byte: u8, times: usize) -> Result<(), AllocError>
+    ensures items { OnOk result (all.new.items ≡ all.old.items ++ times_over times (byte ∷ [])) }
+    ensures long { OnOk result (vec_len all.new ≡ vec_len all.old + times) }
+{
+    for _ in 0..times {
+        all.push(byte)?;
+    }
+    Ok(())
+}
+
+// Adds bytes so many times.
+fn add_bytes(all: &mut Vec<u8>, bytes: &[u8], times: usize) -> Result<(), AllocError>
+    ensures items { OnOk result (all.new.items ≡ all.old.items ++ times_over times bytes.now) }
+    ensures long { OnOk result (vec_len all.new ≡ vec_len all.old + length bytes.now * times) }
+{
+    for _ in 0..times {
+        all.extend_from_slice(bytes)?;
+    }
+    Ok(())
 }
 
 // Adds the bytes that a word stands for.

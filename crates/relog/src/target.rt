@@ -150,6 +150,7 @@ impl<C: Compression + Drop, S: Store + Leaves<Item = C::Value> + Imaged + Drop> 
         let [entry] = *exactly::<_, 1>(words)?;
         let entry = word_bytes(session, entry)?;
         let lent = session.lent.entries;
+        // By as much as is lent and no more: the library's doubling would take twice as much.
         if self.entries.len() < lent {
             self.entries.reserve_exact(lent - self.entries.len())?;
             self.entries.resize(lent, 0)?;

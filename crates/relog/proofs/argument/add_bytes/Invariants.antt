@@ -1,6 +1,6 @@
 use Rattle.std.proofs.Common.{◌≡◌, ◌+◌, ◌*◌, ◌++◌, length, vec_items, vec_len}
 use Rattle.std.specs.List.{repeat}
-use Rattle.relog.proofs.argument.repeat.Given as goal
+use Rattle.relog.proofs.argument.add_bytes.Given as goal
 
 abbrev pub invariant-loop : goal.invariant-loop
 invariant-loop l = (vec_items l.all ≡ vec_items l.initial.all ++ repeat l.counter l.bytes) × (vec_len l.all ≡ vec_len l.initial.all + length l.bytes * l.counter)
