@@ -5,7 +5,7 @@ ghost use Rattle.cipher.specs.Blocks.{block_bytes};
 ghost use Rattle.aes.specs.Aes.{temp, key_expansion};
 
 use crate::columns::shifted;
-use crate::words::load_word;
+use crate::words::{load_word, store_word};
 use cipher::words::{Block, Words};
 
 const RCON: [u8; 10] = [1, 2, 4, 8, 16, 32, 64, 128, 27, 54];
@@ -33,7 +33,7 @@ pub(crate) fn round_keys(key: Block) -> [u8; 176]
     let mut last = load_word(&keys, 12);
     for i in 4..44 {
         last = load_word(&keys, 4 * i - 16) ^ temp(i, last);
-        keys[4 * i..4 * i + 4].copy_from_slice(&last.to_le_bytes());
+        store_word(last, &mut keys, 4 * i);
     }
     keys
 }

@@ -1,22 +1,10 @@
-use borrow.Rule.Slice.PartMut.{put_mid}
-use Rattle.std.proofs.lemmas.Slice.{overwrites}
-use Rattle.std.proofs.Common.{rules, ◌≡◌, ℕ, ◌+◌, ◌-◌, ◌*◌, ◌≤◌, List, bit_xor, length, take, drop, replicate, sym, ap, ◌∙◌, arith, take_all}
+use Rattle.std.proofs.Common.{◌≡◌, ℕ, ◌+◌, ◌-◌, ◌*◌, ◌≤◌, List, length, take, drop, replicate, sym, ap, ◌∙◌, arith, take_all}
 use Rattle.cipher.specs.Blocks.{block_bytes}
 use Rattle.cipher.proofs.Littles.{length_block}
 use Rattle.cipher.proofs.Pieces.{stored_there, written_front}
-use Rattle.cipher.specs.Bytes.{little, written}
 use Rattle.aes.specs.Aes.{expanded}
-use Rattle.aes.specs.Fours.{fours}
 use Rattle.aes.specs.Expansion.{expanded_none, grown, newest}
 use Rattle.aes.proofs.keys.round_keys.Goals as goal
-
--- a word's bytes put over four bytes of the keys
-word_put : (at w : ℕ) (xs ys : List ℕ) → at + 4 ≤ length xs → ys ≡ little 4 w → put_mid at (at + 4 - at) xs ys ≡ written at (little 4 w) xs
-unfolding little
-word_put at w xs ys room is = search (rules, overwrites)
-
-long_put : (at : ℕ) (xs ys : List ℕ) → at + 4 ≤ length xs → length ys ≡ 4 → length (put_mid at (at + 4 - at) xs ys) ≡ length xs
-long_put at xs ys room is = search (rules, overwrites)
 
 pub loop-i-init : goal.loop-i-init
 loop-i-init c = (sym (expanded_none 4 _), c.load_word-last.ensures, omega arith)
@@ -33,10 +21,10 @@ loop-i-preserved c =
     let from : 4 ≤ i = omega arith in
     let a = grown 4 i key xs back st c.loop-i.last (omega arith) from room c.loop-i.invariant.0 c.loop-i.invariant.1 far c.temp.ensures in
     let b = newest 4 i key xs back st c.loop-i.last (omega arith) from room c.loop-i.invariant.0 c.loop-i.invariant.1 far c.temp.ensures in
-    let e = word_put (4 * i) (bit_xor back st) xs c.copy_from_slice.new.self room (c.copy_from_slice.ensures.after ∙ c.to_le_bytes.ensures ∙ sym (fours (bit_xor back st))) in (
+    let e = c.store_word.ensures in (
       ap (λ (l : List ℕ). take (4 * (i + 1)) l) e ∙ a,
       b ∙ ap (λ (l : List ℕ). take 4 (drop (4 * (i + 1) - 4) l)) (sym e),
-      omega (arith, long_put (4 * i) xs c.copy_from_slice.new.self room (ap length (c.copy_from_slice.ensures.after ∙ c.to_le_bytes.ensures))),
+      omega arith,
     )
 
 pub returns : goal.returns
